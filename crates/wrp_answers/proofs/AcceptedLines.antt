@@ -26,7 +26,8 @@ abbrev Audited : Setting → List (List ℕ) → Type 0
 Audited s lines = (events : List Happened) × IsAudit s lines events
 
 -- a line more
-accepted_more : (s : Setting) → IsOfNetwork s → (front : List (List ℕ)) (line : List ℕ) (events : List Happened) → IsAudit s front events → IsAccepted s front line → Audited s (front ++ line ∷ [])
+accepted_more : (s : Setting) → IsOfNetwork s → (front : List (List ℕ)) (line : List ℕ) (events : List Happened) → IsAudit s front events
+    → IsAccepted s front line → Audited s (front ++ line ∷ [])
 accepted_more s net front line events audit accepted =
     let e : Event = accepted.0 in
     let says = event_said e in
@@ -35,7 +36,8 @@ accepted_more s net front line events audit accepted =
     (h ∷ events, one_more s net front line events h audit accepted.1 says.1 (accepted.2 events says.0 audit says.1) due.1)
 
 -- line by line
-accepted_on : (s : Setting) → IsOfNetwork s → (behind front : List (List ℕ)) (events : List Happened) → IsAudit s front events → EachIsAccepted s (front ++ behind) → Audited s (front ++ behind)
+accepted_on : (s : Setting) → IsOfNetwork s → (behind front : List (List ℕ)) (events : List Happened) → IsAudit s front events
+    → EachIsAccepted s (front ++ behind) → Audited s (front ++ behind)
 accepted_on s net [] front events audit each = subst (Audited s) (sym (append-nil front)) (events, audit)
 accepted_on s net (line ∷ rest) front events audit each =
     let more = accepted_more s net front line events audit (each front rest line refl) in

@@ -39,15 +39,18 @@ pub record IsOfNetwork (s : Setting) : Type 0 where
 
 -- One event more
 
-pub one_more : (s : Setting) → IsOfNetwork s → (lines : List (List ℕ)) (line : List ℕ) (events : List Happened) (h : Happened) → IsAudit s lines events → event_read s.cfg line ≡ Ok h.event
-    → IsSaid h.event h.says → Accepts s (world_after s events) h.says h.event → IsAnswered (answers_in s) s (world_after s (h ∷ events)) → IsAudit s (lines ++ line ∷ []) (h ∷ events)
+pub one_more : (s : Setting) → IsOfNetwork s → (lines : List (List ℕ)) (line : List ℕ) (events : List Happened) (h : Happened) → IsAudit s lines events
+    → event_read s.cfg line ≡ Ok h.event
+    → IsSaid h.event h.says → Accepts s (world_after s events) h.says h.event → IsAnswered (answers_in s) s (world_after s (h ∷ events))
+    → IsAudit s (lines ++ line ∷ []) (h ∷ events)
 one_more s net lines line events h audit reads said accepts answered =
     let are : AreEvents s (lines ++ line ∷ []) (h ∷ events) = one_line s lines events line h audit.are reads in
     let all : AllSaid (h ∷ events) = (said, audit.run.said) in
     record {
       are = are;
       run = record { accepted = (accepts, audit.run.accepted); said = all; answered = answered };
-      heard = λ n below. all_heard s net.accepted net.set (h ∷ events) (lines_hand_on s.cfg (h ∷ events) (all_said s (lines ++ line ∷ []) (h ∷ events) are)) all n;
+      heard =
+          λ n below. all_heard s net.accepted net.set (h ∷ events) (lines_hand_on s.cfg (h ∷ events) (all_said s (lines ++ line ∷ []) (h ∷ events) are)) all n;
     }
 
 -- an event that keeps all premises
@@ -59,8 +62,10 @@ record Goes (s : Setting) (lines : List (List ℕ)) (line : List ℕ) (events : 
 abbrev Decided : Setting → List (List ℕ) → List ℕ → List Happened → Type 0
 Decided s lines line events = Goes s lines line events ⊎ ((last : List ℕ) × Breaks s lines line last)
 
-tried : (s : Setting) → IsOfNetwork s → (lines : List (List ℕ)) (line : List ℕ) (events : List Happened) (e : Event) (says : Result PtpMsg FrameFault) → IsAudit s lines events
-    → event_read s.cfg line ≡ Ok e → IsSaid e says → Accepts s (world_after s events) says e ⊎ ((breach : Breach) × (told_of (checks_of s (world_after s events) says e) ≡ Some breach))
+tried : (s : Setting) → IsOfNetwork s → (lines : List (List ℕ)) (line : List ℕ) (events : List Happened) (e : Event) (says : Result PtpMsg FrameFault)
+    → IsAudit s lines events
+    → event_read s.cfg line ≡ Ok e → IsSaid e says
+    → Accepts s (world_after s events) says e ⊎ ((breach : Breach) × (told_of (checks_of s (world_after s events) says e) ≡ Some breach))
     → Decided s lines line events
 tried s net lines line events e says audit reads said (inr broken) =
     inr (
@@ -72,7 +77,8 @@ tried s net lines line events e says audit reads said (inl accepts) =
     let h : Happened = record { event = e; says = says; answer = due.0 } in
     inl (record { newest = h; audit = one_more s net lines line events h audit reads said accepts due.1 })
 
-decided : (s : Setting) → IsOfNetwork s → (lines : List (List ℕ)) (line : List ℕ) (events : List Happened) (e : Event) → IsAudit s lines events → event_read s.cfg line ≡ Ok e → Decided s lines line events
+decided : (s : Setting) → IsOfNetwork s → (lines : List (List ℕ)) (line : List ℕ) (events : List Happened) (e : Event) → IsAudit s lines events
+    → event_read s.cfg line ≡ Ok e → Decided s lines line events
 decided s net lines line events e audit reads =
     let says = event_said e in
     tried s net lines line events e says.0 audit reads says.1 (event_tried s (world_after s events) says.0 e)
@@ -82,7 +88,8 @@ no_events s = record { are = refl; run = record { accepted = tt; said = tt; answ
 
 -- Audits
 
-audit_by : (s : Setting) (lines : List (List ℕ)) (line text : List ℕ) (accepted : Audits s lines text) → Decided s lines line accepted.0 → GoesOn (audit_of s) lines line text ⊎ Refused (audit_of s) lines line
+audit_by : (s : Setting) (lines : List (List ℕ)) (line text : List ℕ) (accepted : Audits s lines text) → Decided s lines line accepted.0
+    → GoesOn (audit_of s) lines line text ⊎ Refused (audit_of s) lines line
 audit_by s lines line text accepted (inl goes) =
     inl (
       event_lines s accepted.0 goes.newest,
@@ -90,7 +97,8 @@ audit_by s lines line text accepted (inl goes) =
     )
 audit_by s lines line text accepted (inr broken) = inr (refusals.Broken, broken.0, broken.1)
 
-audit_decides : (s : Setting) → IsOfNetwork s → (lines : List (List ℕ)) (line text : List ℕ) (r : Result Event TraceFault) → event_read s.cfg line ≡ r → Audits s lines text
+audit_decides : (s : Setting) → IsOfNetwork s → (lines : List (List ℕ)) (line text : List ℕ) (r : Result Event TraceFault) → event_read s.cfg line ≡ r
+    → Audits s lines text
     → GoesOn (audit_of s) lines line text ⊎ Refused (audit_of s) lines line
 audit_decides s net lines line text (Err fault) reads accepted = inr (refusals.BadTrace, bad_trace_line (length lines + 1) fault, (fault, reads, refl))
 audit_decides s net lines line text (Ok e) reads accepted = audit_by s lines line text accepted (decided s net lines line accepted.0 e accepted.1 reads)
@@ -114,10 +122,12 @@ emission_by s n lines line text accepted (inl goes) =
     inl (more, (goes.newest ∷ accepted.0, goes.audit, ap (λ (l : List ℕ). l ++ more) accepted.2))
 emission_by s n lines line text accepted (inr broken) = inr (refusals.Broken, broken.0, broken.1)
 
-emission_decides : (s : Setting) → IsOfNetwork s → (n : ℕ) (lines : List (List ℕ)) (line text : List ℕ) (r : Result Event TraceFault) → event_read s.cfg line ≡ r → Emits s n lines text
+emission_decides : (s : Setting) → IsOfNetwork s → (n : ℕ) (lines : List (List ℕ)) (line text : List ℕ) (r : Result Event TraceFault)
+    → event_read s.cfg line ≡ r → Emits s n lines text
     → GoesOn (emission_of s n) lines line text ⊎ Refused (emission_of s n) lines line
 emission_decides s net n lines line text (Err fault) reads accepted = inr (refusals.BadTrace, bad_trace_line (length lines + 1) fault, (fault, reads, refl))
-emission_decides s net n lines line text (Ok e) reads accepted = emission_by s n lines line text accepted (decided s net lines line accepted.0 e accepted.1 reads)
+emission_decides s net n lines line text (Ok e) reads accepted =
+    emission_by s n lines line text accepted (decided s net lines line accepted.0 e accepted.1 reads)
 
 emission_total : (s : Setting) → IsOfNetwork s → (n : ℕ) → IsTotal (emission_of s n)
 emission_total s net n = record {

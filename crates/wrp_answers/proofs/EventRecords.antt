@@ -71,18 +71,22 @@ line_says cfg names e is fits = content_clean (event_text cfg e) (no_returns is_
 
 -- All lines
 
-pub told_whole : (s : Setting) → HasNames s.cfg → (events : List Happened) → AllEvents s.cfg events → AllFit events → AllByRecursion IsWhole (told_lines s events)
+pub told_whole : (s : Setting) → HasNames s.cfg → (events : List Happened) → AllEvents s.cfg events → AllFit events
+    → AllByRecursion IsWhole (told_lines s events)
 told_whole s names [] each fit = tt
 told_whole s names (h ∷ before) each fit =
-    all_append IsWhole (told_lines s before) (event_line s.cfg h.event ∷ []) (told_whole s names before each.1 fit.1) (line_whole s.cfg names h.event each.0 fit.0, tt)
+    all_append IsWhole (told_lines s before) (event_line s.cfg h.event ∷ []) (told_whole s names before each.1 fit.1)
+    (line_whole s.cfg names h.event each.0 fit.0, tt)
 
-pub told_within : (s : Setting) → HasNames s.cfg → IsSmall s.cfg → (events : List Happened) → AllEvents s.cfg events → AllFit events → AllByRecursion IsWithin (told_lines s events)
+pub told_within : (s : Setting) → HasNames s.cfg → IsSmall s.cfg → (events : List Happened) → AllEvents s.cfg events → AllFit events
+    → AllByRecursion IsWithin (told_lines s events)
 told_within s names small [] each fit = tt
 told_within s names small (h ∷ before) each fit =
     all_append IsWithin (told_lines s before) (event_line s.cfg h.event ∷ []) (told_within s names small before each.1 fit.1)
     (line_within s.cfg names small h.event each.0 fit.0, tt)
 
-pub told_says : (s : Setting) → HasNames s.cfg → (events : List Happened) → AllEvents s.cfg events → AllFit events → map content_of (told_lines s events) ≡ said_texts s.cfg events
+pub told_says : (s : Setting) → HasNames s.cfg → (events : List Happened) → AllEvents s.cfg events → AllFit events
+    → map content_of (told_lines s events) ≡ said_texts s.cfg events
 told_says s names [] each fit = refl
 told_says s names (h ∷ before) each fit =
     map-append content_of (told_lines s before) (event_line s.cfg h.event ∷ [])
@@ -91,6 +95,7 @@ told_says s names (h ∷ before) each fit =
 pub told_count : (s : Setting) (events : List Happened) → length (told_lines s events) ≡ length events
 told_count s [] = refl
 told_count s (h ∷ before) =
-    let all : length (told_lines s before ++ event_line s.cfg h.event ∷ []) ≡ length (told_lines s before) + 1 = length-append (told_lines s before) (event_line s.cfg h.event ∷ []) in
+    let all : length (told_lines s before ++ event_line s.cfg h.event ∷ []) ≡ length (told_lines s before) + 1 =
+    length-append (told_lines s before) (event_line s.cfg h.event ∷ []) in
     let rest = told_count s before in
     omega (arith, all, rest)

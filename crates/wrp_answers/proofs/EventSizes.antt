@@ -74,7 +74,8 @@ joined_total [] = omega arith
 joined_total (text ∷ []) = omega arith
 joined_total (text ∷ next ∷ texts) =
     let rest : length (join_with_byte 44 (next ∷ texts)) ≤ total (next ∷ texts) = joined_total (next ∷ texts) in
-    let all : length (text ++ 44 ∷ join_with_byte 44 (next ∷ texts)) ≡ length text + suc (length (join_with_byte 44 (next ∷ texts))) = length-append text (44 ∷ join_with_byte 44 (next ∷ texts)) in
+    let all : length (text ++ 44 ∷ join_with_byte 44 (next ∷ texts)) ≡ length text + suc (length (join_with_byte 44 (next ∷ texts))) =
+    length-append text (44 ∷ join_with_byte 44 (next ∷ texts)) in
     omega (arith, rest, all)
 
 total_append : (a b : List (List ℕ)) → total (a ++ b) ≡ total a + total b
@@ -136,14 +137,16 @@ bits_short bits = let size : length (big_bytes 8 bits) ≡ 8 = length-bytes_high
 drift_short : (node : NodeCfg) (drift : ℤ) → length node.name.bytes ≤ 16 → IsChange drift → length (drift_words node drift) ≤ 37
 drift_short node drift name is =
     let number = change_short drift is in
-    let all : length (node.name.bytes ++ 61 ∷ signed_decimal drift) ≡ length node.name.bytes + suc (length (signed_decimal drift)) = length-append node.name.bytes (61 ∷ signed_decimal drift) in
+    let all : length (node.name.bytes ++ 61 ∷ signed_decimal drift) ≡ length node.name.bytes + suc (length (signed_decimal drift)) =
+    length-append node.name.bytes (61 ∷ signed_decimal drift) in
     omega (arith, name, number, all)
 
 move_short : (link : LinkCfg) (move : ℤ × ℤ) → length link.name.bytes ≤ 16 → IsMove move → length (move_words link move) ≤ 58
 move_short link move name is =
     let down = change_short move.0 is.0 in
     let up = change_short move.1 is.1 in
-    let moves : length (signed_decimal move.0 ++ 47 ∷ signed_decimal move.1) ≡ length (signed_decimal move.0) + suc (length (signed_decimal move.1)) = length-append (signed_decimal move.0) (47 ∷ signed_decimal move.1) in
+    let moves : length (signed_decimal move.0 ++ 47 ∷ signed_decimal move.1) ≡ length (signed_decimal move.0) + suc (length (signed_decimal move.1)) =
+    length-append (signed_decimal move.0) (47 ∷ signed_decimal move.1) in
     let all : length (link.name.bytes ++ 61 ∷ (signed_decimal move.0 ++ 47 ∷ signed_decimal move.1)) ≡ length link.name.bytes + suc (length (signed_decimal move.0 ++ 47 ∷ signed_decimal move.1)) = length-append link.name.bytes (61 ∷ (signed_decimal move.0 ++ 47 ∷ signed_decimal move.1)) in
     omega (arith, name, down, up, moves, all)
 
@@ -157,7 +160,9 @@ drifts_total cfg names k [] at drifts are = omega arith
 drifts_total cfg names k (node ∷ nodes) at [] are = omega arith
 drifts_total cfg names k (node ∷ nodes) at (d ∷ drifts) are =
     let first : List (List ℕ) = if unsigned_abs d == 0 then [] else drift_words node d ∷ [] in
-    let one : total first ≤ 38 = maybe_total (unsigned_abs d == 0) (drift_words node d) 37 (drift_short node d (name_short node.name.bytes (names.node (k + 0) node (at 0 node refl))) are.0) in
+    let one : total first ≤ 38 =
+    maybe_total (unsigned_abs d == 0) (drift_words node d) 37
+    (drift_short node d (name_short node.name.bytes (names.node (k + 0) node (at 0 node refl))) are.0) in
     let rest : total (drift_texts nodes drifts) ≤ 38 * length nodes =
     drifts_total cfg names (suc k) nodes (λ i other e. ap (slice_get cfg.nodes.items) (omega arith) ∙ at (suc i) other e) drifts are.1 in
     let all : total (first ++ drift_texts nodes drifts) ≡ total first + total (drift_texts nodes drifts) = total_append first (drift_texts nodes drifts) in
@@ -170,7 +175,8 @@ moves_total cfg names k (link ∷ links) at [] are = omega arith
 moves_total cfg names k (link ∷ links) at (m ∷ moves) are =
     let none : Bool = (unsigned_abs m.0 == 0) && (unsigned_abs m.1 == 0) in
     let first : List (List ℕ) = if none then [] else move_words link m ∷ [] in
-    let one : total first ≤ 59 = maybe_total none (move_words link m) 58 (move_short link m (name_short link.name.bytes (names.link (k + 0) link (at 0 link refl))) are.0) in
+    let one : total first ≤ 59 =
+    maybe_total none (move_words link m) 58 (move_short link m (name_short link.name.bytes (names.link (k + 0) link (at 0 link refl))) are.0) in
     let rest : total (move_texts links moves) ≤ 59 * length links =
     moves_total cfg names (suc k) links (λ i other e. ap (slice_get cfg.links.items) (omega arith) ∙ at (suc i) other e) moves are.1 in
     let all : total (first ++ move_texts links moves) ≡ total first + total (move_texts links moves) = total_append first (move_texts links moves) in

@@ -40,7 +40,8 @@ audited asked input audit asks (inr (inr looped)) =
     absurd (cc)
 audited asked input audit asks (inl p) = go p.0 p.1 p.2
   where
-    go : (task : Task) → AsksFor asked (network_text input) task → RecordsAnswer (meaning_at task) (behind_separator (lines_of input)) Done audit → DoneAudit input
+    go : (task : Task) → AsksFor asked (network_text input) task → RecordsAnswer (meaning_at task) (behind_separator (lines_of input)) Done audit
+        → DoneAudit input
     go (Audit s) q h =
         record { s = s; setting = q.2; within = q.0; sizes = h.handled.sizes; count = h.handled.count; events = h.handled.accepted.0; audit = h.handled.accepted.1 }
     go task q h = let bad : requests.Audit ≡ (task_row task).command = one_command asked requests.Audit (task_row task).command asks q.1 in absurd (cc)

@@ -38,7 +38,8 @@ record Least (now best : ℤ) (times : List ℤ) (got : ℤ) : Type 0 where
 no_more : (a b c : ℤ) → a ≤ℤ b → b ≤ℤ c → a ≤ℤ c
 no_more a b c h k = omega (arith, ints, h, k)
 
-found_by : (best moment sooner got : ℤ) (times : List ℤ) → (sooner ≡ best) ⊎ (sooner ≡ moment) → (got ≡ sooner) ⊎ Contains times got → (got ≡ best) ⊎ Contains (moment ∷ times) got
+found_by : (best moment sooner got : ℤ) (times : List ℤ) → (sooner ≡ best) ⊎ (sooner ≡ moment) → (got ≡ sooner) ⊎ Contains times got
+    → (got ≡ best) ⊎ Contains (moment ∷ times) got
 found_by best moment sooner got times one (inr there) = let below = there.1 in inr (suc there.0, omega (arith, below), there.2)
 found_by best moment sooner got times (inl old) (inl same) = inl (same ∙ old)
 found_by best moment sooner got times (inr new) (inl same) = inr (0, omega arith, sym (same ∙ new))

@@ -68,7 +68,8 @@ abbrev pub said_texts : NetCfg → List Happened → List (List ℕ)
 said_texts cfg [] = []
 said_texts cfg (h ∷ before) = said_texts cfg before ++ event_text cfg h.event ∷ []
 
-pub plain_are : (s : Setting) → HasNames s.cfg → (events : List Happened) → AllEvents s.cfg events → AllFit events → AreEvents s (said_texts s.cfg events) (plain_events events)
+pub plain_are : (s : Setting) → HasNames s.cfg → (events : List Happened) → AllEvents s.cfg events → AllFit events
+    → AreEvents s (said_texts s.cfg events) (plain_events events)
 plain_are s names [] each fit = refl
 plain_are s names (h ∷ before) each fit =
     one_line s (said_texts s.cfg before) (plain_events before) (event_text s.cfg h.event) (plain_of h) (plain_are s names before each.1 fit.1)

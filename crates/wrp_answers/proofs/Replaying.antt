@@ -39,7 +39,8 @@ written_run site [] text wrote = record { said = tt; answered = tt }
 written_run site (t ∷ before) text wrote = record { said = wrote.3.said; answered = wrote.3.answered }
 
 -- an input more
-goes_on : (site : LineSetting) (lines : List (List ℕ)) (line text : List ℕ) (input : Input) → Accepts site lines text → read_of site line ≡ Ok input → GoesOn (meaning_of site) lines line text
+goes_on : (site : LineSetting) (lines : List (List ℕ)) (line text : List ℕ) (input : Input) → Accepts site lines text → read_of site line ≡ Ok input
+    → GoesOn (meaning_of site) lines line text
 goes_on site lines line text input accepted reads =
     let fixed : NodeSetting = node_setting_at site in
     let before : List Taken = accepted.0 in
@@ -53,7 +54,8 @@ goes_on site lines line text input accepted reads =
       (t ∷ before, one_more site lines before line t accepted.1 reads, (text, outs, accepted.2, taken, refl)),
     )
 
-decided : (site : LineSetting) (lines : List (List ℕ)) (line text : List ℕ) (read : Result Input TraceFault) → Accepts site lines text → read_of site line ≡ read
+decided : (site : LineSetting) (lines : List (List ℕ)) (line text : List ℕ) (read : Result Input TraceFault) → Accepts site lines text
+    → read_of site line ≡ read
     → GoesOn (meaning_of site) lines line text ⊎ Refused (meaning_of site) lines line
 decided site lines line text (Ok input) accepted reads = inl (goes_on site lines line text input accepted reads)
 decided site lines line text (Err fault) accepted reads = inr (refusals.BadTrace, bad_trace_line (length lines + 1) fault, (fault, reads, refl))

@@ -113,7 +113,8 @@ hands_on cfg (Up n off swaps) is own = tt
 hands_on cfg (Cut k) is own = tt
 hands_on cfg (Join k ms sm) is own = tt
 
-all_hand_on : (scene : SceneAt) (s : Setting) (seed : ℕ) (events : List Happened) (at : SimAt) → IsSimRun scene s seed events at → AllEvents s.cfg events → AllHandOn events
+all_hand_on : (scene : SceneAt) (s : Setting) (seed : ℕ) (events : List Happened) (at : SimAt) → IsSimRun scene s seed events at → AllEvents s.cfg events
+    → AllHandOn events
 all_hand_on scene s seed [] at run each = tt
 all_hand_on scene s seed (h ∷ before) at run each =
     let own : IsOwn h.event = subst OwnIf (sym run.2.next) (next_own scene s (world_after s before) run.2.due run.0) in
@@ -122,5 +123,6 @@ all_hand_on scene s seed (h ∷ before) at run each =
 pub simulated_is_heard : ReadingIsAccepted → SimRunsAreRuns → SimulatedIsHeard
 simulated_is_heard accepted runs text s lines scene seed events at setting said simulated n below =
     let net : IsOfNetwork s = of_text accepted text s setting in
-    let run : IsRun s events = runs scene s seed events at (record { accepted = net.accepted; set = net.set }) (scenario_fits s lines scene said) simulated.run in
+    let run : IsRun s events =
+    runs scene s seed events at (record { accepted = net.accepted; set = net.set }) (scenario_fits s lines scene said) simulated.run in
     all_heard s net.accepted net.set events (all_hand_on scene s seed events at simulated.run run.each) simulated.said n

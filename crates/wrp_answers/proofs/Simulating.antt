@@ -25,11 +25,13 @@ use Rattle.wrp_records.specs.RecordsAnswer.{HasAnswer}
 
 -- Scenarios
 
-changes_more : (s : Setting) (scene last next : SceneAt) (lines : List (List ℕ)) (line : List ℕ) → Changes s.cfg scene lines last → scene_read s.cfg last line ≡ Ok next → Changes s.cfg scene (lines ++ line ∷ []) next
+changes_more : (s : Setting) (scene last next : SceneAt) (lines : List (List ℕ)) (line : List ℕ) → Changes s.cfg scene lines last
+    → scene_read s.cfg last line ≡ Ok next → Changes s.cfg scene (lines ++ line ∷ []) next
 changes_more s scene last next [] line changes reads = (next, subst (λ (x : SceneAt). scene_read s.cfg x line ≡ Ok next) changes reads, refl)
 changes_more s scene last next (first ∷ lines) line changes reads = (changes.0, changes.1, changes_more s changes.0 last next lines line changes.2 reads)
 
-decided : (s : Setting) (seed : ℕ) (lines : List (List ℕ)) (line text : List ℕ) (accepted : SimAccepts s lines text) (r : Result SceneAt TraceFault) → scene_read s.cfg accepted.0 line ≡ r
+decided : (s : Setting) (seed : ℕ) (lines : List (List ℕ)) (line text : List ℕ) (accepted : SimAccepts s lines text) (r : Result SceneAt TraceFault)
+    → scene_read s.cfg accepted.0 line ≡ r
     → GoesOn (simulation_of s seed) lines line text ⊎ Refused (simulation_of s seed) lines line
 decided s seed lines line text accepted (Ok next) reads =
     inl ([], (next, changes_more s (new_scene s.cfg) accepted.0 next lines line accepted.1 reads, ap (λ (l : List ℕ). l ++ []) accepted.2))
@@ -45,19 +47,22 @@ given s scene events at =
     (next_of scene s (world_after s events) due.0 at, record { due = due.0; first = due.1; next = refl })
 
 -- none: the run is over
-ended : (s : Setting) (seed : ℕ) (lines : List (List ℕ)) (run : Simulates s seed lines) (next : Option Next) → Gives run.scene s (world_after s run.events) run.at next
+ended : (s : Setting) (seed : ℕ) (lines : List (List ℕ)) (run : Simulates s seed lines) (next : Option Next)
+    → Gives run.scene s (world_after s run.events) run.at next
     → ((n : Next) → Gives run.scene s (world_after s run.events) run.at (Some n) → Ends (simulation_of s seed) lines) → Ends (simulation_of s seed) lines
 ended s seed lines run None gives more = (Done, sim_lines s run.events ++ sum_lines s run.events, (run, gives, refl))
 ended s seed lines run (Some n) gives more = more n gives
 
 -- an event whose number is too great
-overrun : (s : Setting) (seed : ℕ) (lines : List (List ℕ)) (run : Simulates s seed lines) (n : Next) → length run.events + 1 ≡ event_limit → Gives run.scene s (world_after s run.events) run.at (Some n)
+overrun : (s : Setting) (seed : ℕ) (lines : List (List ℕ)) (run : Simulates s seed lines) (n : Next) → length run.events + 1 ≡ event_limit
+    → Gives run.scene s (world_after s run.events) run.at (Some n)
     → Ends (simulation_of s seed) lines
 overrun s seed lines run n number gives =
     (TooLarge, sim_lines s run.events ++ large_line (length run.events + 1), (run, record { next = n; comes = gives; number = number }, refl))
 
 -- one event more
-longer : (s : Setting) (seed : ℕ) (scene : SceneAt) (events : List Happened) (at : SimAt) (n : Next) → IsSimulated s scene seed events at → length events + 1 < event_limit
+longer : (s : Setting) (seed : ℕ) (scene : SceneAt) (events : List Happened) (at : SimAt) (n : Next) → IsSimulated s scene seed events at
+    → length events + 1 < event_limit
     → Gives scene s (world_after s events) at (Some n) → (h : Happened) × IsSimulated s scene seed (h ∷ events) n.at
 longer s seed scene events at n simulated count gives =
     let says = event_said n.event in
@@ -67,7 +72,8 @@ longer s seed scene events at n simulated count gives =
     )
 
 -- by how many events may still come
-run_on : (s : Setting) (seed : ℕ) (lines : List (List ℕ)) (scene : SceneAt) → IsScenario s lines scene → (left : ℕ) (events : List Happened) (at : SimAt) → IsSimulated s scene seed events at
+run_on : (s : Setting) (seed : ℕ) (lines : List (List ℕ)) (scene : SceneAt) → IsScenario s lines scene → (left : ℕ) (events : List Happened) (at : SimAt)
+    → IsSimulated s scene seed events at
     → length events + suc left ≡ event_limit → Ends (simulation_of s seed) lines
 run_on s seed lines scene said zero events at simulated count =
     let run : Simulates s seed lines = record { scene = scene; said = said; events = events; at = at; simulated = simulated } in

@@ -99,7 +99,8 @@ front_of (line ∷ lines) are ends = elim (cases_Bool (is_separator line)) [
 abbrev separator : List ℕ
 separator = codes "---" ++ 10 ∷ []
 
-before_is : (first rest : List (List ℕ)) → AllByRecursion (λ line. is_separator line ≡ false) first → before_separator (first ++ separator ∷ rest) ≡ concat first
+before_is : (first rest : List (List ℕ)) → AllByRecursion (λ line. is_separator line ≡ false) first
+    → before_separator (first ++ separator ∷ rest) ≡ concat first
 before_is [] rest none = refl
 before_is (line ∷ first) rest none = rw none.0 (ap (λ (l : List ℕ). line ++ l) (before_is first rest none.1))
 

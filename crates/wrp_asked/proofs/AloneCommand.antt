@@ -13,7 +13,8 @@ use Rattle.wrp_commands.specs.declared.alone.Alone.{Alone}
 use Rattle.wrp_asked.specs.Alone.{HasAim, MayAnswer, alone_meaning}
 
 -- lines that are answered are the answer to the input, and no link is called
-pub by_lines : (M : LineMeaning) (input : List ℕ) → HasAnswer M (lines_of input) → (status : Status) × (octets : List ℕ) × (of_lines M).answers input [] status octets
+pub by_lines : (M : LineMeaning) (input : List ℕ) → HasAnswer M (lines_of input)
+    → (status : Status) × (octets : List ℕ) × (of_lines M).answers input [] status octets
 by_lines M input due = (due.0, due.1, (refl, due.2))
 
 -- the first records of an input write this, or nothing is written
@@ -40,7 +41,8 @@ pub record IsAloneCommand (alone : Alone) : Type 0 where
   pub one :
       (input : List ℕ) (calls : List LinkCall) (s t : Status) (o u : List ℕ) → (alone_meaning alone).answers input calls s o →
       (alone_meaning alone).answers input calls t u → (s ≡ t) × (o ≡ u)
-  pub uncalled : (input : List ℕ) (calls : List LinkCall) (status : Status) (octets : List ℕ) → (alone_meaning alone).answers input calls status octets → calls ≡ []
+  pub uncalled :
+      (input : List ℕ) (calls : List LinkCall) (status : Status) (octets : List ℕ) → (alone_meaning alone).answers input calls status octets → calls ≡ []
   pub unlinked : (input octets : List ℕ) → (alone_meaning alone).unlinked input [] octets → ⊥
   pub no_usage : (input octets : List ℕ) → (alone_meaning alone).answers input [] Usage octets → ⊥
   pub answered : (input : List ℕ) → (status : Status) × (octets : List ℕ) × (alone_meaning alone).answers input [] status octets

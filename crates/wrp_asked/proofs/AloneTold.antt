@@ -19,14 +19,18 @@ use Rattle.wrp_asked.proofs.OneAnswer.{given_of}
 use Rattle.wrp_asked.proofs.WordLemmas.{alone_command, alone_unnetworked, one_alone}
 
 -- an answer for its word is its own
-due_alone : (asked : CommandLine) (alone : Alone) (input : List ℕ) (calls : List LinkCall) (status : Status) (octets : List ℕ) → IsAlone asked alone → RecordsDue asked input calls status octets
+due_alone : (asked : CommandLine) (alone : Alone) (input : List ℕ) (calls : List LinkCall) (status : Status) (octets : List ℕ) → IsAlone asked alone
+    → RecordsDue asked input calls status octets
     → (alone_meaning alone).answers input calls status octets
 due_alone asked alone input calls status octets is (inl task) = absurd (alone_unnetworked asked alone is (networked_of asked _ task.0 task.1))
-due_alone asked alone input calls status octets is (inr (inr looped)) = absurd (alone_unnetworked asked alone is (networked_of asked _ (Loop looped.0 looped.1) looped.2))
-due_alone asked alone input calls status octets is (inr (inl own)) = subst (λ (a : Alone). (alone_meaning a).answers input calls status octets) (one_alone asked own.0 alone own.1 is) own.2
+due_alone asked alone input calls status octets is (inr (inr looped)) =
+    absurd (alone_unnetworked asked alone is (networked_of asked _ (Loop looped.0 looped.1) looped.2))
+due_alone asked alone input calls status octets is (inr (inl own)) =
+    subst (λ (a : Alone). (alone_meaning a).answers input calls status octets) (one_alone asked own.0 alone own.1 is) own.2
 
 -- and no refusal stands in front of it
-answer_alone : (asked : CommandLine) (alone : Alone) (input : List ℕ) (calls : List LinkCall) (status : Status) (octets : List ℕ) → IsAlone asked alone → Answer asked input calls status octets
+answer_alone : (asked : CommandLine) (alone : Alone) (input : List ℕ) (calls : List LinkCall) (status : Status) (octets : List ℕ) → IsAlone asked alone
+    → Answer asked input calls status octets
     → (alone_meaning alone).answers input calls status octets
 answer_alone asked alone input calls Usage octets is h = elim h.0 [
   | inl none ↦ absurd (none (alone_command asked alone is))
@@ -43,7 +47,8 @@ answer_alone asked alone input calls TooLarge octets is h = elim h [
 answer_alone asked alone input calls status octets is h = due_alone asked alone input calls status octets is h
 
 -- what stands behind a failed read is its own, and so is what stands where there was no memory
-own_cut : (asked : CommandLine) (alone : Alone) (taken octets : List ℕ) → IsAlone asked alone → CutAnswer asked taken octets → (alone_meaning alone).cut taken octets
+own_cut : (asked : CommandLine) (alone : Alone) (taken octets : List ℕ) → IsAlone asked alone → CutAnswer asked taken octets
+    → (alone_meaning alone).cut taken octets
 own_cut asked alone taken octets is (inl network) = absurd (alone_unnetworked asked alone is network.0)
 own_cut asked alone taken octets is (inr own) = subst (λ (a : Alone). (alone_meaning a).cut taken octets) (one_alone asked own.0 alone own.1 is) own.2
 
@@ -51,7 +56,8 @@ own_first : (asked : CommandLine) (alone : Alone) (input octets : List ℕ) (cal
     → IsFirstOf (alone_meaning alone) input octets
 own_first asked alone input octets calls is (inl none) = inl none.0
 own_first asked alone input octets calls is (inr (inl task)) = absurd (alone_unnetworked asked alone is (networked_of asked _ task.0 task.1))
-own_first asked alone input octets calls is (inr (inr (inr looped))) = absurd (alone_unnetworked asked alone is (networked_of asked _ (Loop looped.0 looped.1) looped.2))
+own_first asked alone input octets calls is (inr (inr (inr looped))) =
+    absurd (alone_unnetworked asked alone is (networked_of asked _ (Loop looped.0 looped.1) looped.2))
 own_first asked alone input octets calls is (inr (inr (inl own))) =
     inr (calls, subst (λ (a : Alone). (alone_meaning a).first input calls octets) (one_alone asked own.0 alone own.1 is) own.2)
 
@@ -60,13 +66,15 @@ own_part : (asked : CommandLine) (alone : Alone) (input octets : List ℕ) (call
     → IsPartOf (alone_meaning alone) input octets
 own_part asked alone input octets calls is (whole, count, octets_are, inl (status, due)) =
     let own = answer_alone asked alone input calls status whole is due in
-    let uncalled = subst (λ (cs : List LinkCall). (alone_meaning alone).answers input cs status whole) ((facts_of alone).uncalled input calls status whole own) own in
+    let uncalled =
+    subst (λ (cs : List LinkCall). (alone_meaning alone).answers input cs status whole) ((facts_of alone).uncalled input calls status whole own) own in
     (whole, count, octets_are, inl (status, uncalled))
 own_part asked alone input octets calls is (whole, count, octets_are, inr first) =
     (whole, count, octets_are, inr (own_first asked alone input whole calls is first))
 
 -- what was taken stands first in the input
-taken_front : (before now : Option (List ℕ)) (input taken : List ℕ) → before ≡ Some input → Consumes before now taken → (left : List ℕ) × (input ≡ taken ++ left)
+taken_front : (before now : Option (List ℕ)) (input taken : List ℕ) → before ≡ Some input → Consumes before now taken
+    → (left : List ℕ) × (input ≡ taken ++ left)
 taken_front before None input taken known took = absurd (subst (λ (o : Option (List ℕ)). Consumes o None taken) known took)
 taken_front before (Some left) input taken known took = (left, subst (λ (o : Option (List ℕ)). Consumes o (Some left) taken) known took)
 
@@ -74,7 +82,8 @@ taken_front before (Some left) input taken known took = (left, subst (λ (o : Op
 abbrev Told : Run → Alone → List ℕ → Status → Type 0
 Told run alone input status = (octets : List ℕ) × Wrote run octets × Leaves (alone_meaning alone) input status octets
 
-answered : (run : Run) (alone : Alone) (input : List ℕ) (status : Status) → IsAlone run.asked alone → run.source.before ≡ Some input → Ends run status → is_answer status ≡ true → Told run alone input status
+answered : (run : Run) (alone : Alone) (input : List ℕ) (status : Status) → IsAlone run.asked alone → run.source.before ≡ Some input → Ends run status
+    → is_answer status ≡ true → Told run alone input status
 answered run alone input status is told ends answer =
     let given = given_of run status input told ends answer in
     let own = answer_alone run.asked alone input given.1 status given.0 is given.4 in (
@@ -91,7 +100,8 @@ answered run alone input status is told ends answer =
       },
     )
 
-told : (run : Run) (alone : Alone) (input : List ℕ) (status : Status) → IsAlone run.asked alone → run.source.before ≡ Some input → Ends run status → Told run alone input status
+told : (run : Run) (alone : Alone) (input : List ℕ) (status : Status) → IsAlone run.asked alone → run.source.before ≡ Some input → Ends run status
+    → Told run alone input status
 told run alone input ReadFault is known ends =
     let front = taken_front run.source.before run.source.now input ends.1 known ends.3 in (
       ends.2,
@@ -140,7 +150,8 @@ told run alone input BadCalib is known ends = answered run alone input BadCalib 
 abbrev pub WroteSo : Alone → Option (List ℕ) → Option (List ℕ) → Status → List ℕ → Type 0
 WroteSo alone held now status input = (octets : List ℕ) × Appends held now octets × HasAim alone input status octets
 
-pub aimed : (run : Run) (status : Status) → Ends run status → (alone : Alone) → IsAlone run.asked alone → IfSome run.source.before (WroteSo alone run.sink.before run.sink.now status)
+pub aimed : (run : Run) (status : Status) → Ends run status → (alone : Alone) → IsAlone run.asked alone
+    → IfSome run.source.before (WroteSo alone run.sink.before run.sink.now status)
 aimed run status ends alone is = go run.source.before refl
   where
     go : (o : Option (List ℕ)) → run.source.before ≡ o → IfSome o (WroteSo alone run.sink.before run.sink.now status)

@@ -51,7 +51,8 @@ uncalled link same = same ∙ none link.before
     none (Some calls) = ap Some (sym (append-nil calls))
 
 -- a fact of the whole input
-pub told_text : (first middle : Option (List ℕ)) (network text : List ℕ) (r : ReaderAt) → Consumes first middle network → IsDivided network text r → (r.ended ≡ true → IsAtEnd middle)
+pub told_text : (first middle : Option (List ℕ)) (network text : List ℕ) (r : ReaderAt) → Consumes first middle network → IsDivided network text r
+    → (r.ended ≡ true → IsAtEnd middle)
     → IfSome first (λ input. network_text input ≡ text)
 told_text None middle network text r one divided at_end = tt
 told_text (Some input) None network text r one divided at_end = absurd one
@@ -83,8 +84,10 @@ both_parts P (Some input) (Some middle) (Some left) network given text r ended o
       | inr (end, same, none) ↦
           let nothing : middle ≡ [] = rest_at_end end.ended in
           let all : input ≡ network = one ∙ ap (λ l. network ++ l) nothing ∙ append-nil network in
-          let held : (r.rest ++ given) ++ left ≡ [] = append_assoc r.rest given left ∙ ap (λ l. r.rest ++ l) (sym two ∙ nothing) ∙ append-nil r.rest ∙ end.none in
-          let lines_are : behind_separator (lines_of input) ≡ lines_of ((r.rest ++ given) ++ left) = ap (λ l. behind_separator (lines_of l)) all ∙ none ∙ ap lines_of (sym held) in
+          let held : (r.rest ++ given) ++ left ≡ [] =
+          append_assoc r.rest given left ∙ ap (λ l. r.rest ++ l) (sym two ∙ nothing) ∙ append-nil r.rest ∙ end.none in
+          let lines_are : behind_separator (lines_of input) ≡ lines_of ((r.rest ++ given) ++ left) =
+          ap (λ l. behind_separator (lines_of l)) all ∙ none ∙ ap lines_of (sym held) in
           (ap network_text all ∙ same, subst P (sym lines_are) (told left at_end))
     ]
 
@@ -101,7 +104,8 @@ asks_told : (asked : CommandLine) (text other : List ℕ) (task : Task) → othe
 asks_told asked text other task same asks = subst (λ (t : List ℕ). AsksFor asked t task) (sym same) asks
 
 -- a fact of all record lines, in the whole input
-pub lines_told : (P : List (List ℕ) → Type 0) (asked : CommandLine) (first : Option (List ℕ)) (source : Passage (List ℕ)) (text given : List ℕ) (r : ReaderAt) (ended : Bool) (task : Task)
+pub lines_told : (P : List (List ℕ) → Type 0) (asked : CommandLine) (first : Option (List ℕ)) (source : Passage (List ℕ)) (text given : List ℕ) (r : ReaderAt)
+    (ended : Bool) (task : Task)
     → TookNetwork asked first source.before text r task → Consumes source.before source.now given → (ended ≡ true → IsAtEnd source.now)
     → ((more : List ℕ) → GoesOn ended more → P (lines_of ((r.rest ++ given) ++ more)))
     → IfSome first (λ input. AsksFor asked (network_text input) task × P (behind_separator (lines_of input)))
@@ -111,12 +115,15 @@ lines_told P asked (Some input) source text given r ended task net taken at_end 
     (asks_told asked text (network_text input) task both.0 net.asks, both.1)
 
 -- an answer
-answered : (asked : CommandLine) (first : Option (List ℕ)) (source : Passage (List ℕ)) (text given octets : List ℕ) (r : ReaderAt) (ended : Bool) (task : Task) (status : Status)
+answered : (asked : CommandLine) (first : Option (List ℕ)) (source : Passage (List ℕ)) (text given octets : List ℕ) (r : ReaderAt) (ended : Bool) (task : Task)
+    (status : Status)
     → TookNetwork asked first source.before text r task → Consumes source.before source.now given → (ended ≡ true → IsAtEnd source.now)
     → IsDue (of_lines (meaning_at task)) (r.rest ++ given) ended [] status octets → IfSome first (λ input. Answer asked input [] status octets)
 answered asked None source text given octets r ended task status net taken at_end due = tt
 answered asked (Some input) source text given octets r ended task status net taken at_end due =
-    let has = lines_told (λ (ls : List (List ℕ)). RecordsAnswer (meaning_at task) ls status octets) asked (Some input) source text given r ended task net taken at_end (λ more on. (due more on).1) in
+    let has =
+    lines_told (λ (ls : List (List ℕ)). RecordsAnswer (meaning_at task) ls status octets) asked (Some input) source text given r ended task net taken at_end
+    (λ more on. (due more on).1) in
     answer_of asked input task status octets has.0 has.1
 
 -- the first lines
@@ -125,7 +132,9 @@ firsts : (asked : CommandLine) (first : Option (List ℕ)) (source : Passage (Li
     → IsFirst (of_lines (meaning_at task)) (r.rest ++ given) ended [] octets → IfSome first (λ input. FirstAnswer asked input [] octets)
 firsts asked None source text given octets r ended task net taken at_end due = tt
 firsts asked (Some input) source text given octets r ended task net taken at_end due =
-    let has = lines_told (λ (ls : List (List ℕ)). StandsFirst (meaning_at task) ls octets) asked (Some input) source text given r ended task net taken at_end (λ more on. (due more on).1) in
+    let has =
+    lines_told (λ (ls : List (List ℕ)). StandsFirst (meaning_at task) ls octets) asked (Some input) source text given r ended task net taken at_end
+    (λ more on. (due more on).1) in
     inr (inl (task, has.0, has.1, refl))
 
 -- a part of what is due
@@ -155,7 +164,8 @@ none_of_two [] left e = refl
 none_of_two (octet ∷ given) left e = absurd (cc)
 
 -- a line among those behind a network text is refused, where the octets behind the text are these
-refused_behind : (M : LineMeaning) (refusal : Refusal) (lines others : List (List ℕ)) (text : List ℕ) → others ≡ lines → (at : IsRefused M refusal lines text) → at.behind ≡ []
+refused_behind : (M : LineMeaning) (refusal : Refusal) (lines others : List (List ℕ)) (text : List ℕ) → others ≡ lines → (at : IsRefused M refusal lines text)
+    → at.behind ≡ []
     → (here : IsRefused M refusal others text) × (here.behind ≡ [])
 refused_behind M refusal lines others text same at last = (
   record {
@@ -174,14 +184,17 @@ refused_behind M refusal lines others text same at last = (
   last,
 )
 
-ends_refused : (asked : CommandLine) (task : Task) (refusal : Refusal) (network text front : List ℕ) → ((more : List ℕ) → (network_text (network ++ more) ≡ text) × (behind_separator (lines_of (network ++ more)) ≡ lines_of more))
+ends_refused : (asked : CommandLine) (task : Task) (refusal : Refusal) (network text front : List ℕ)
+    → ((more : List ℕ) → (network_text (network ++ more) ≡ text) × (behind_separator (lines_of (network ++ more)) ≡ lines_of more))
     → AsksFor asked text task → LastRefused (meaning_at task) refusal front → EndsRefused asked (network ++ front) refusal
 ends_refused asked task refusal network text front divides asks at =
-    let here = refused_behind (meaning_at task) refusal (lines_of front) (behind_separator (lines_of (network ++ front))) at.text (divides front).1 at.refused at.last in
+    let here =
+    refused_behind (meaning_at task) refusal (lines_of front) (behind_separator (lines_of (network ++ front))) at.text (divides front).1 at.refused at.last in
     record { task = task; octets = at.text; asks = asks_told asked text (network_text (network ++ front)) task (divides front).0 asks; refused = here.0; last = here.1 }
 
 -- the refused one among these statuses
-ends_as : (asked : CommandLine) (task : Task) (status : Status) (network text front : List ℕ) → ((more : List ℕ) → (network_text (network ++ more) ≡ text) × (behind_separator (lines_of (network ++ more)) ≡ lines_of more))
+ends_as : (asked : CommandLine) (task : Task) (status : Status) (network text front : List ℕ)
+    → ((more : List ℕ) → (network_text (network ++ more) ≡ text) × (behind_separator (lines_of (network ++ more)) ≡ lines_of more))
     → AsksFor asked text task → LastRefusedAs (meaning_at task) status front → EndsRefusedAs asked (network ++ front) status
 ends_as asked task BadTrace network text front divides asks at = inl (ends_refused asked task refusals.BadTrace network text front divides asks at)
 ends_as asked task Broken network text front divides asks at = inl (ends_refused asked task refusals.Broken network text front divides asks at)
@@ -228,7 +241,8 @@ past_told : (run : Run) (middle : Option (List ℕ)) (text given : List ℕ) (r 
 past_told run middle text given r task status net taken at =
     go run.source.before middle run.source.now net.taken taken net.at_end refl refl
   where
-    go : (first mid last : Option (List ℕ)) → Consumes first mid net.network → Consumes mid last given → (r.ended ≡ true → IsAtEnd mid) → first ≡ run.source.before → last ≡ run.source.now
+    go : (first mid last : Option (List ℕ)) → Consumes first mid net.network → Consumes mid last given → (r.ended ≡ true → IsAtEnd mid)
+        → first ≡ run.source.before → last ≡ run.source.now
         → IfSome first (TakesPiece run status)
     go None mid last one two rest_at_end is ends = tt
     go (Some input) None last one two rest_at_end is ends = absurd one
@@ -241,7 +255,9 @@ past_told run middle text given r task status net taken at =
           front = found.0;
           past = found.1;
           left = left;
-          all = one ∙ ap (λ l. net.network ++ l) two ∙ sym (append_assoc net.network given left) ∙ ap (λ l. l ++ left) found.2 ∙ append_assoc found.0 found.1 left;
+          all =
+              one ∙ ap (λ l. net.network ++ l) two ∙ sym (append_assoc net.network given left) ∙ ap (λ l. l ++ left) found.2
+              ∙ append_assoc found.0 found.1 left;
           now = sym ends;
           piece = found.3;
           refused = found.4;
@@ -279,12 +295,14 @@ broken_asks asked text (Simulate setting seed) lines due asks at = absurd at.ref
 broken_asks asked text (Loop setting seed) lines due asks at = absurd at.refused
 
 -- what is due at the end is due however the input goes on
-due_at_end : (M : LineMeaning) (taken : List ℕ) (ended : Bool) (octets : List ℕ) → After (of_lines M) taken ended [] Done octets → IsDue (of_lines M) taken ended [] Done octets
+due_at_end : (M : LineMeaning) (taken : List ℕ) (ended : Bool) (octets : List ℕ) → After (of_lines M) taken ended [] Done octets
+    → IsDue (of_lines M) taken ended [] Done octets
 due_at_end M taken ended octets at more on =
     (refl, subst (λ (l : List ℕ). RecordsAnswer M (lines_of l) Done octets) (sym (ap (λ l. taken ++ l) (on at.0) ∙ append-nil taken)) at.1.1)
 
 -- how a run ends that came to the records
-pub records_end : (asked : CommandLine) (first : Option (List ℕ)) (source sink : Passage (List ℕ)) (text : List ℕ) (r : ReaderAt) (ended : Bool) (task : Task) (status : Status)
+pub records_end : (asked : CommandLine) (first : Option (List ℕ)) (source sink : Passage (List ℕ)) (text : List ℕ) (r : ReaderAt) (ended : Bool) (task : Task)
+    (status : Status)
     → TookNetwork asked first source.before text r task → Passes (of_lines (meaning_at task)) source sink r.rest r.ended ended [] status
     → EndsUnlinked asked (begun_at first source) sink status
 records_end asked first source sink text r ended task Done net at link same = (
@@ -331,7 +349,8 @@ records_end asked first source sink text r ended task Usage net at link same = a
 records_end asked first source sink text r ended task BadNetwork net at link same = absurd (at.stands [] (λ e. refl)).1
 
 -- how a run ends whose only line is a refusal
-pub line_ends : (run : Run) (due given : Status) (line : List ℕ) → Finishes due given run.sink.before run.sink.now line → (given ≡ WriteFault → Failed run.sink) → Called run []
+pub line_ends : (run : Run) (due given : Status) (line : List ℕ) → Finishes due given run.sink.before run.sink.now line → (given ≡ WriteFault → Failed run.sink)
+    → Called run []
     → IfSome run.source.before (λ input. Answer run.asked input [] due line) → (Wrote run line → Ends run due) → Ends run given
 line_ends run due given line how writes called told ends =
     elim how [
@@ -341,7 +360,8 @@ line_ends run due given line how writes called told ends =
     ]
 
 -- the network text is too long
-pub told_too_long : (asked : CommandLine) (first middle : Option (List ℕ)) (network : List ℕ) (r : ReaderAt) → IsNetworked asked → Consumes first middle network → IsTooLong network r
+pub told_too_long : (asked : CommandLine) (first middle : Option (List ℕ)) (network : List ℕ) (r : ReaderAt) → IsNetworked asked → Consumes first middle network
+    → IsTooLong network r
     → (r.ended ≡ true → IsAtEnd middle) → IfSome first (λ input. Answer asked input [] TooLarge too_large_line)
 told_too_long asked None middle network r networked one long at_end = tt
 told_too_long asked (Some input) None network r networked one long at_end = absurd one
@@ -349,7 +369,8 @@ told_too_long asked (Some input) (Some middle) network r networked one long at_e
     inl (networked, subst (λ (l : List ℕ). network_limit < length (network_text l)) (sym one) (long middle at_end), refl, refl)
 
 -- the network text is refused
-pub told_bad_network : (asked : CommandLine) (first : Option (List ℕ)) (text line : List ℕ) → IfSome first (λ input. network_text input ≡ text) → length text ≤ network_limit
+pub told_bad_network : (asked : CommandLine) (first : Option (List ℕ)) (text line : List ℕ) → IfSome first (λ input. network_text input ≡ text)
+    → length text ≤ network_limit
     → IsRefusedBy text line → IsNetworked asked → IfSome first (λ input. Answer asked input [] BadNetwork line)
 told_bad_network asked None text line told fits bad networked = tt
 told_bad_network asked (Some input) text line told fits bad networked =
@@ -377,8 +398,10 @@ nothing_first asked None = tt
 nothing_first asked (Some input) = inl (refl, refl)
 
 -- how a run ends before its records
-pub size_ends : (run : Run) (given : Status) (network : List ℕ) (r : ReaderAt) → IsNetworked run.asked → Consumes run.source.before run.source.now network → IsTooLong network r
-    → (r.ended ≡ true → IsAtEnd run.source.now) → Finishes TooLarge given run.sink.before run.sink.now too_large_line → (given ≡ WriteFault → Failed run.sink) → Called run [] → Ends run given
+pub size_ends : (run : Run) (given : Status) (network : List ℕ) (r : ReaderAt) → IsNetworked run.asked → Consumes run.source.before run.source.now network
+    → IsTooLong network r
+    → (r.ended ≡ true → IsAtEnd run.source.now) → Finishes TooLarge given run.sink.before run.sink.now too_large_line → (given ≡ WriteFault → Failed run.sink)
+    → Called run [] → Ends run given
 size_ends run given network r networked one long at_end how writes called =
     let told = told_too_long run.asked run.source.before run.source.now network r networked one long at_end in
     line_ends run TooLarge given too_large_line how writes called told (λ wrote. (inl networked, too_large_line, [], wrote, called, told))
@@ -388,17 +411,21 @@ memory_ends run wrote called = ([], [], wrote, called, nothing_first run.asked r
 
 without_memory : (run : Run) (given : Status) → given ≡ OutOfMemory → run.sink.now ≡ run.sink.before → Called run [] → Ends run given
 without_memory run given memory same called =
-    subst (Ends run) (sym memory) (memory_ends run (subst (λ (now : Option (List ℕ)). Appends run.sink.before now []) (sym same) (Appends-nil run.sink.before)) called)
+    subst (Ends run) (sym memory)
+    (memory_ends run (subst (λ (now : Option (List ℕ)). Appends run.sink.before now []) (sym same) (Appends-nil run.sink.before)) called)
 
-pub bad_network_ends : (run : Run) (given : Status) (network text line : List ℕ) (r : ReaderAt) → IsNetworked run.asked → Consumes run.source.before run.source.now network
+pub bad_network_ends : (run : Run) (given : Status) (network text line : List ℕ) (r : ReaderAt) → IsNetworked run.asked
+    → Consumes run.source.before run.source.now network
     → IsDivided network text r → length text ≤ network_limit → (r.ended ≡ true → IsAtEnd run.source.now) → IsRefusedBy text line
     → Finishes BadNetwork given run.sink.before run.sink.now line → (given ≡ WriteFault → Failed run.sink) → Called run [] → Ends run given
 bad_network_ends run given network text line r networked one divided fits at_end bad how writes called =
-    let told = told_bad_network run.asked run.source.before text line (told_text run.source.before run.source.now network text r one divided at_end) fits bad networked in
+    let told =
+    told_bad_network run.asked run.source.before text line (told_text run.source.before run.source.now network text r one divided at_end) fits bad networked in
     line_ends run BadNetwork given line how writes called told (λ wrote. (inl networked, line, [], wrote, called, told))
 
 -- the network is refused, or there was no memory for its line
-pub refused_ends : (run : Run) (given : Status) (network text : List ℕ) (fault : ConfFault) (r : ReaderAt) → IsNetworked run.asked → Consumes run.source.before run.source.now network
+pub refused_ends : (run : Run) (given : Status) (network text : List ℕ) (fault : ConfFault) (r : ReaderAt) → IsNetworked run.asked
+    → Consumes run.source.before run.source.now network
     → IsDivided network text r → length text ≤ network_limit → (r.ended ≡ true → IsAtEnd run.source.now) → IsReadingOf text (Err fault)
     → RefusesNetwork fault given run.sink.before run.sink.now → (given ≡ WriteFault → Failed run.sink) → Called run [] → Ends run given
 refused_ends run given network text (Fault code place) r networked one divided fits at_end reads how writes called =
@@ -408,26 +435,32 @@ refused_ends run given network text (Fault code place) r networked one divided f
     ]
 refused_ends run given network text (Memory e) r networked one divided fits at_end reads how writes called = without_memory run given how.0 how.1 called
 
-pub no_node_ends : (run : Run) (given : Status) (network text : List ℕ) (r : ReaderAt) → AsksNone run.asked text → Consumes run.source.before run.source.now network
-    → IsDivided network text r → (r.ended ≡ true → IsAtEnd run.source.now) → Finishes Usage given run.sink.before run.sink.now run.asked.usage → (given ≡ WriteFault → Failed run.sink)
+pub no_node_ends : (run : Run) (given : Status) (network text : List ℕ) (r : ReaderAt) → AsksNone run.asked text
+    → Consumes run.source.before run.source.now network
+    → IsDivided network text r → (r.ended ≡ true → IsAtEnd run.source.now) → Finishes Usage given run.sink.before run.sink.now run.asked.usage
+    → (given ≡ WriteFault → Failed run.sink)
     → Called run [] → Ends run given
 no_node_ends run given network text r none one divided at_end how writes called =
     let told = told_no_node run.asked run.source.before text (told_text run.source.before run.source.now network text r one divided at_end) none in
-    line_ends run Usage given run.asked.usage how writes called (told_no_usage run.asked run.source.before told) (λ wrote. (wrote, inr ((none.name, none.asks), told), called))
+    line_ends run Usage given run.asked.usage how writes called (told_no_usage run.asked run.source.before told)
+    (λ wrote. (wrote, inr ((none.name, none.asks), told), called))
 
-pub usage_ends : (run : Run) (given : Status) → (IsCommand run.asked → ⊥) → Finishes Usage given run.sink.before run.sink.now run.asked.usage → (given ≡ WriteFault → Failed run.sink)
+pub usage_ends : (run : Run) (given : Status) → (IsCommand run.asked → ⊥) → Finishes Usage given run.sink.before run.sink.now run.asked.usage
+    → (given ≡ WriteFault → Failed run.sink)
     → Called run [] → Ends run given
 usage_ends run given none how writes called =
     line_ends run Usage given run.asked.usage how writes called (told_usage run.asked run.source.before none) (λ wrote. (wrote, inl none, called))
 
-pub network_fails : (run : Run) (network : List ℕ) → IsNetworked run.asked → Consumes run.source.before run.source.now network → IsUndivided network → Wrote run [] → Failed run.source
+pub network_fails : (run : Run) (network : List ℕ) → IsNetworked run.asked → Consumes run.source.before run.source.now network → IsUndivided network
+    → Wrote run [] → Failed run.source
     → Called run [] → Ends run ReadFault
 network_fails run network networked taken cut wrote rose called = (rose, network, [], taken, wrote, inl (networked, inl (cut, refl)), called)
 
 -- Commands that stand alone
 
 -- a fact of the whole input
-whole_told : (P : List ℕ → Type 0) (source : Passage (List ℕ)) (given : List ℕ) (ended : Bool) → Consumes source.before source.now given → (ended ≡ true → IsAtEnd source.now)
+whole_told : (P : List ℕ → Type 0) (source : Passage (List ℕ)) (given : List ℕ) (ended : Bool) → Consumes source.before source.now given
+    → (ended ≡ true → IsAtEnd source.now)
     → ((more : List ℕ) → GoesOn ended more → P (given ++ more)) → IfSome source.before P
 whole_told P source given ended taken at_end told = go source.before source.now taken at_end
   where
@@ -437,26 +470,34 @@ whole_told P source given ended taken at_end told = go source.before source.now 
     go (Some input) (Some left) taken at_end = subst P (sym taken) (told left at_end)
 
 -- what it answers is due for its word
-alone_answers : (asked : CommandLine) (alone : Alone) (input : List ℕ) (status : Status) (due : List ℕ) → IsAlone asked alone → (alone_meaning alone).answers input [] status due → Answer asked input [] status due
+alone_answers : (asked : CommandLine) (alone : Alone) (input : List ℕ) (status : Status) (due : List ℕ) → IsAlone asked alone
+    → (alone_meaning alone).answers input [] status due → Answer asked input [] status due
 alone_answers asked alone input Usage due is has = absurd ((facts_of alone).no_usage input due has)
 alone_answers asked alone input BadNetwork due is has = inr (alone, is, has)
 alone_answers asked alone input TooLarge due is has = inr (inr (inl (alone, is, has)))
 alone_answers asked alone input status due is has = inr (inl (alone, is, has))
 
 -- of the whole input
-told_alone : (asked : CommandLine) (alone : Alone) (source : Passage (List ℕ)) (given octets : List ℕ) (ended : Bool) (status : Status) → IsAlone asked alone → Consumes source.before source.now given
-    → (ended ≡ true → IsAtEnd source.now) → IsDue (alone_meaning alone) given ended [] status octets → IfSome source.before (λ input. Answer asked input [] status octets)
+told_alone : (asked : CommandLine) (alone : Alone) (source : Passage (List ℕ)) (given octets : List ℕ) (ended : Bool) (status : Status) → IsAlone asked alone
+    → Consumes source.before source.now given
+    → (ended ≡ true → IsAtEnd source.now) → IsDue (alone_meaning alone) given ended [] status octets
+    → IfSome source.before (λ input. Answer asked input [] status octets)
 told_alone asked alone source given octets ended status is taken at_end due =
-    whole_told (λ input. Answer asked input [] status octets) source given ended taken at_end (λ more on. alone_answers asked alone (given ++ more) status octets is (due more on))
+    whole_told (λ input. Answer asked input [] status octets) source given ended taken at_end
+    (λ more on. alone_answers asked alone (given ++ more) status octets is (due more on))
 
-first_alone : (asked : CommandLine) (alone : Alone) (source : Passage (List ℕ)) (given octets : List ℕ) (ended : Bool) → IsAlone asked alone → Consumes source.before source.now given
-    → (ended ≡ true → IsAtEnd source.now) → IsFirst (alone_meaning alone) given ended [] octets → IfSome source.before (λ input. FirstAnswer asked input [] octets)
+first_alone : (asked : CommandLine) (alone : Alone) (source : Passage (List ℕ)) (given octets : List ℕ) (ended : Bool) → IsAlone asked alone
+    → Consumes source.before source.now given
+    → (ended ≡ true → IsAtEnd source.now) → IsFirst (alone_meaning alone) given ended [] octets
+    → IfSome source.before (λ input. FirstAnswer asked input [] octets)
 first_alone asked alone source given octets ended is taken at_end due =
     whole_told (λ input. FirstAnswer asked input [] octets) source given ended taken at_end (λ more on. inr (inr (inl (alone, is, due more on))))
 
 -- a part of what is due
-part_alone : (asked : CommandLine) (alone : Alone) (source : Passage (List ℕ)) (given octets : List ℕ) (ended : Bool) → IsAlone asked alone → Consumes source.before source.now given
-    → (ended ≡ true → IsAtEnd source.now) → After (alone_meaning alone) given ended [] WriteFault octets → IfSome source.before (λ input. PartAnswer asked input [] octets)
+part_alone : (asked : CommandLine) (alone : Alone) (source : Passage (List ℕ)) (given octets : List ℕ) (ended : Bool) → IsAlone asked alone
+    → Consumes source.before source.now given
+    → (ended ≡ true → IsAtEnd source.now) → After (alone_meaning alone) given ended [] WriteFault octets
+    → IfSome source.before (λ input. PartAnswer asked input [] octets)
 part_alone asked alone source given octets ended is taken at_end at =
     subst (λ (o : List ℕ). IfSome source.before (λ input. PartAnswer asked input [] o)) (sym at.2)
     (elim at.3 [
@@ -465,7 +506,8 @@ part_alone asked alone source given octets ended is taken at_end at =
     ])
 
 -- a refused record ends what was taken but for the rest of its piece
-past_alone : (run : Run) (alone : Alone) (given : List ℕ) (status : Status) → IsAlone run.asked alone → Consumes run.source.before run.source.now given → StopsNear (alone_meaning alone) status given
+past_alone : (run : Run) (alone : Alone) (given : List ℕ) (status : Status) → IsAlone run.asked alone → Consumes run.source.before run.source.now given
+    → StopsNear (alone_meaning alone) status given
     → ((front : List ℕ) → (alone_meaning alone).refused status front → EndsRefusedAs run.asked front status) → IfSome run.source.before (TakesPiece run status)
 past_alone run alone given status is taken at means = go run.source.before run.source.now taken refl
   where
@@ -487,7 +529,8 @@ alone_done : (M : Meaning) (taken : List ℕ) (ended : Bool) (octets : List ℕ)
 alone_done M taken ended octets at more on = subst (λ (l : List ℕ). M.answers l [] Done octets) (sym (ap (λ l. taken ++ l) (on at.0) ∙ append-nil taken)) at.1
 
 -- a command that stands alone may answer what is due
-may_alone : (alone : Alone) (given octets : List ℕ) (ended : Bool) (status : Status) → IsDue (alone_meaning alone) given ended [] status octets → MayAnswer alone status
+may_alone : (alone : Alone) (given octets : List ℕ) (ended : Bool) (status : Status) → IsDue (alone_meaning alone) given ended [] status octets
+    → MayAnswer alone status
 may_alone alone given octets ended status due = (facts_of alone).may (given ++ []) status octets (due [] (λ e. refl))
 
 ends_alone : (asked : CommandLine) (alone : Alone) (source sink : Passage (List ℕ)) (ended : Bool) (status : Status) → IsAlone asked alone
@@ -535,6 +578,7 @@ ends_alone asked alone source sink ended OutOfMemory is at link same =
 ends_alone asked alone source sink ended Usage is at link same = absurd ((facts_of alone).no_usage (at.given ++ []) at.octets (at.stands [] (λ e. refl)))
 ends_alone asked alone source sink ended LinkFault is at link same = absurd ((facts_of alone).unlinked at.given at.octets at.stands.1)
 
-pub alone_ends : (asked : CommandLine) (alone : Alone) (source sink : Passage (List ℕ)) (status : Status) → IsAlone asked alone → PassesAll (alone_meaning alone) source sink status
+pub alone_ends : (asked : CommandLine) (alone : Alone) (source sink : Passage (List ℕ)) (status : Status) → IsAlone asked alone
+    → PassesAll (alone_meaning alone) source sink status
     → EndsUnlinked asked source sink status
 alone_ends asked alone source sink status is at = ends_alone asked alone source sink at.0 status is at.1

@@ -44,32 +44,38 @@ use Rattle.wrp_trace.specs.Printing.{joined}
 
 -- Frames
 
-such_to : (s : Setting) (events : List Happened) (way : Way) (octets : List ℕ) (i : ℕ) → IsSuch s (world_after s events) way octets i → IsSuch (bare_setting s) (world_after (bare_setting s) events) way octets i
+such_to : (s : Setting) (events : List Happened) (way : Way) (octets : List ℕ) (i : ℕ) → IsSuch s (world_after s events) way octets i
+    → IsSuch (bare_setting s) (world_after (bare_setting s) events) way octets i
 such_to s events way octets i h =
     subst (λ (w : WorldAt). IsSuch (bare_setting s) w way octets i) (sym (after_bare s events))
     (record { frame = h.frame; is = h.is; link_is = h.link_is; by_is = h.by_is; arrived = h.arrived; young = h.young; equals = h.equals })
 
-such_from : (s : Setting) (events : List Happened) (way : Way) (octets : List ℕ) (i : ℕ) → IsSuch (bare_setting s) (world_after (bare_setting s) events) way octets i → IsSuch s (world_after s events) way octets i
+such_from : (s : Setting) (events : List Happened) (way : Way) (octets : List ℕ) (i : ℕ)
+    → IsSuch (bare_setting s) (world_after (bare_setting s) events) way octets i → IsSuch s (world_after s events) way octets i
 such_from s events way octets i k =
     let h = subst (λ (w : WorldAt). IsSuch (bare_setting s) w way octets i) (after_bare s events) k in
     record { frame = h.frame; is = h.is; link_is = h.link_is; by_is = h.by_is; arrived = h.arrived; young = h.young; equals = h.equals }
 
-found_bare : (s : Setting) (events : List Happened) (way : Way) (octets : List ℕ) (found : Option ℕ) → IsFrameOf s events way octets found → IsFrameOf (bare_setting s) events way octets found
+found_bare : (s : Setting) (events : List Happened) (way : Way) (octets : List ℕ) (found : Option ℕ) → IsFrameOf s events way octets found
+    → IsFrameOf (bare_setting s) events way octets found
 found_bare s events way octets found h =
     choice_of (IsSuch s (world_after s events) way octets) (IsSuch (bare_setting s) (world_after (bare_setting s) events) way octets) (handed_in events) found
     (such_to s events way octets) (such_from s events way octets) h
 
-fate_bare : (s : Setting) (events : List Happened) (way : Way) (octets : List ℕ) (fate : Fate) → IsFate s events way octets fate → IsFate (bare_setting s) events way octets fate
+fate_bare : (s : Setting) (events : List Happened) (way : Way) (octets : List ℕ) (fate : Fate) → IsFate s events way octets fate
+    → IsFate (bare_setting s) events way octets fate
 fate_bare s events way octets (Handed i) h = found_bare s events way octets (Some i) h
 fate_bare s events way octets Forged h = (found_bare s events way octets None h.0, h.1)
 fate_bare s events way octets Noisy h = (found_bare s events way octets None h.0, h.1)
 
 -- Datagrams
 
-handles_bare : (s : Setting) (scene : SceneAt) (seed : ℕ) (way : Way) (frame : ArrayVec ℕ) (l : LoopAt) (next : Going) → Handles (plan_of s scene seed) way frame l next → Handles (plan_of (bare_setting s) scene seed) way frame l next
+handles_bare : (s : Setting) (scene : SceneAt) (seed : ℕ) (way : Way) (frame : ArrayVec ℕ) (l : LoopAt) (next : Going)
+    → Handles (plan_of s scene seed) way frame l next → Handles (plan_of (bare_setting s) scene seed) way frame l next
 handles_bare s scene seed way frame l next h = (h.0, fate_bare s (events_at l) way frame.items h.0 h.1, h.2)
 
-all_bare : (s : Setting) (scene : SceneAt) (seed : ℕ) (way : Way) (got : List (ArrayVec ℕ)) (now last : Going) → HandlesAll (plan_of s scene seed) way got now last → HandlesAll (plan_of (bare_setting s) scene seed) way got now last
+all_bare : (s : Setting) (scene : SceneAt) (seed : ℕ) (way : Way) (got : List (ArrayVec ℕ)) (now last : Going)
+    → HandlesAll (plan_of s scene seed) way got now last → HandlesAll (plan_of (bare_setting s) scene seed) way got now last
 all_bare s scene seed way [] now last h = h
 all_bare s scene seed way (frame ∷ got) (Full l) last h = h
 all_bare s scene seed way (frame ∷ got) (On l) last h = (h.0, handles_bare s scene seed way frame l h.0 h.1, all_bare s scene seed way got h.0 last h.2)
@@ -84,7 +90,8 @@ way_bare s frame way octets h = record {
   octets_are = h.octets_are;
 }
 
-arrives_bare : (s : Setting) (scene : SceneAt) (seed : ℕ) (l : LoopAt) (number : ℕ) (way : Way) (octets : List ℕ) → FrameArrives (plan_of s scene seed) l number way octets
+arrives_bare : (s : Setting) (scene : SceneAt) (seed : ℕ) (l : LoopAt) (number : ℕ) (way : Way) (octets : List ℕ)
+    → FrameArrives (plan_of s scene seed) l number way octets
     → FrameArrives (plan_of (bare_setting s) scene seed) l number way octets
 arrives_bare s scene seed l number way octets h = record {
   raw = h.raw;
@@ -96,7 +103,8 @@ arrives_bare s scene seed l number way octets h = record {
   way_is = way_bare s h.frame way octets h.way_is;
 }
 
-carried_bare : (s : Setting) (scene : SceneAt) (seed : ℕ) (l : LoopAt) (calls : List LinkCall) (next : Going) → FrameCarried (plan_of s scene seed) l calls next → FrameCarried (plan_of (bare_setting s) scene seed) l calls next
+carried_bare : (s : Setting) (scene : SceneAt) (seed : ℕ) (l : LoopAt) (calls : List LinkCall) (next : Going) → FrameCarried (plan_of s scene seed) l calls next
+    → FrameCarried (plan_of (bare_setting s) scene seed) l calls next
 unfolding arrives_bare
 carried_bare s scene seed l calls next h = record {
   number = h.number;
@@ -111,7 +119,8 @@ carried_bare s scene seed l calls next h = record {
   handled = all_bare s scene seed h.way h.got _ next h.handled;
 }
 
-round_bare : (s : Setting) (scene : SceneAt) (seed : ℕ) (l : LoopAt) (r : Round) (calls : List LinkCall) (next : Going) → IsRound (plan_of s scene seed) l r calls next → IsRound (plan_of (bare_setting s) scene seed) l r calls next
+round_bare : (s : Setting) (scene : SceneAt) (seed : ℕ) (l : LoopAt) (r : Round) (calls : List LinkCall) (next : Going)
+    → IsRound (plan_of s scene seed) l r calls next → IsRound (plan_of (bare_setting s) scene seed) l r calls next
 round_bare s scene seed l Plain calls next h = (
   h.0,
   record {
@@ -134,14 +143,16 @@ round_bare s scene seed l Dropped calls next h = (
 )
 round_bare s scene seed l Carried calls next h = carried_bare s scene seed l calls next h
 
-goes_bare : (s : Setting) (scene : SceneAt) (seed : ℕ) (now : Going) (rounds : List Round) (calls : List LinkCall) (last : Going) → Goes (plan_of s scene seed) now rounds calls last
+goes_bare : (s : Setting) (scene : SceneAt) (seed : ℕ) (now : Going) (rounds : List Round) (calls : List LinkCall) (last : Going)
+    → Goes (plan_of s scene seed) now rounds calls last
     → Goes (plan_of (bare_setting s) scene seed) now rounds calls last
 goes_bare s scene seed now [] calls last h = h
 goes_bare s scene seed (Full l) (r ∷ rounds) calls last h = absurd h
 goes_bare s scene seed (On l) (r ∷ rounds) calls last h =
     (h.0, h.1, h.2, round_bare s scene seed l r h.1 h.0 h.3, h.4, goes_bare s scene seed h.0 rounds h.2 last h.5)
 
-loops_bare : (s : Setting) (scene : SceneAt) (seed : ℕ) (calls : List LinkCall) (last : Going) → Loops (plan_of s scene seed) calls last → Loops (plan_of (bare_setting s) scene seed) calls last
+loops_bare : (s : Setting) (scene : SceneAt) (seed : ℕ) (calls : List LinkCall) (last : Going) → Loops (plan_of s scene seed) calls last
+    → Loops (plan_of (bare_setting s) scene seed) calls last
 loops_bare s scene seed calls last h = record {
   rounds = h.rounds;
   later = h.later;
@@ -156,15 +167,18 @@ over_bare : (s : Setting) (scene : SceneAt) (seed : ℕ) (last : Going) → IsOv
 over_bare s scene seed (On l) h = gives_after scene s (events_at l) l.at None h
 over_bare s scene seed (Full l) h = h
 
-overrun_bare : (s : Setting) (scene : SceneAt) (seed : ℕ) (last : Going) → IsOverrun (plan_of s scene seed) last → IsOverrun (plan_of (bare_setting s) scene seed) last
+overrun_bare : (s : Setting) (scene : SceneAt) (seed : ℕ) (last : Going) → IsOverrun (plan_of s scene seed) last
+    → IsOverrun (plan_of (bare_setting s) scene seed) last
 overrun_bare s scene seed (On l) h = record { next = h.next; gives = gives_after scene s (events_at l) l.at (Some h.next) h.gives; counted = h.counted; full = h.full }
 overrun_bare s scene seed (Full l) h = h
 
-as_bare : (s : Setting) (scene : SceneAt) (seed : ℕ) (calls : List LinkCall) (ending : Ending) (last : Going) → EndsAs (plan_of s scene seed) calls ending last → EndsAs (plan_of (bare_setting s) scene seed) calls ending last
+as_bare : (s : Setting) (scene : SceneAt) (seed : ℕ) (calls : List LinkCall) (ending : Ending) (last : Going) → EndsAs (plan_of s scene seed) calls ending last
+    → EndsAs (plan_of (bare_setting s) scene seed) calls ending last
 as_bare s scene seed calls Over last h = (loops_bare s scene seed calls last h.0, over_bare s scene seed last h.1)
 as_bare s scene seed calls Large last h = (loops_bare s scene seed calls last h.0, overrun_bare s scene seed last h.1)
 
-ended_bare : (s : Setting) (seed : ℕ) (lines : List (List ℕ)) (calls : List LinkCall) (ending : Ending) → LoopEnded s seed lines calls ending → LoopEnded (bare_setting s) seed lines calls ending
+ended_bare : (s : Setting) (seed : ℕ) (lines : List (List ℕ)) (calls : List LinkCall) (ending : Ending) → LoopEnded s seed lines calls ending
+    → LoopEnded (bare_setting s) seed lines calls ending
 ended_bare s seed lines calls ending h = record {
   scene = h.scene;
   said = said_bare s lines h.scene h.said;
@@ -174,7 +188,8 @@ ended_bare s seed lines calls ending h = record {
   answered = answered_bare s (events_at (place h.last)) h.answered;
 }
 
-which_bare : (s : Setting) (scene : SceneAt) (seed : ℕ) (l : LoopAt) (calls : List LinkCall) → ArrivalCalls (plan_of s scene seed) l calls → ArrivalCalls (plan_of (bare_setting s) scene seed) l calls
+which_bare : (s : Setting) (scene : SceneAt) (seed : ℕ) (l : LoopAt) (calls : List LinkCall) → ArrivalCalls (plan_of s scene seed) l calls
+    → ArrivalCalls (plan_of (bare_setting s) scene seed) l calls
 which_bare s scene seed l calls h = record {
   number = h.number;
   way = h.way;
@@ -185,7 +200,8 @@ which_bare s scene seed l calls h = record {
   are = h.are;
 }
 
-is_short : (s : Setting) (scene : SceneAt) (seed : ℕ) (calls : List LinkCall) (last : Going) → IsShort (plan_of s scene seed) calls last → IsShort (plan_of (bare_setting s) scene seed) calls last
+is_short : (s : Setting) (scene : SceneAt) (seed : ℕ) (calls : List LinkCall) (last : Going) → IsShort (plan_of s scene seed) calls last
+    → IsShort (plan_of (bare_setting s) scene seed) calls last
 is_short s scene seed calls (On l) h = record {
   before = h.before;
   made = h.made;
@@ -195,7 +211,8 @@ is_short s scene seed calls (On l) h = record {
 }
 is_short s scene seed calls (Full l) h = loops_bare s scene seed calls (Full l) h
 
-short_bare : (s : Setting) (seed : ℕ) (lines : List (List ℕ)) (calls : List LinkCall) → LoopShort s seed lines calls → LoopShort (bare_setting s) seed lines calls
+short_bare : (s : Setting) (seed : ℕ) (lines : List (List ℕ)) (calls : List LinkCall) → LoopShort s seed lines calls
+    → LoopShort (bare_setting s) seed lines calls
 short_bare s seed lines calls h = record {
   scene = h.scene;
   said = said_bare s lines h.scene h.said;
@@ -205,7 +222,8 @@ short_bare s seed lines calls h = record {
   answered = answered_bare s (events_at (place h.last)) h.answered;
 }
 
-failed_bare : (s : Setting) (seed : ℕ) (lines : List (List ℕ)) (calls : List LinkCall) → LoopFailed s seed lines calls → LoopFailed (bare_setting s) seed lines calls
+failed_bare : (s : Setting) (seed : ℕ) (lines : List (List ℕ)) (calls : List LinkCall) → LoopFailed s seed lines calls
+    → LoopFailed (bare_setting s) seed lines calls
 failed_bare s seed lines calls h = record {
   scene = h.scene;
   said = said_bare s lines h.scene h.said;
@@ -237,7 +255,8 @@ moves_bare [] moves = refl
 moves_bare (link ∷ links) [] = refl
 moves_bare (link ∷ links) (move ∷ moves) = ap (λ (rest : List (List ℕ)). move_text link move ++ rest) (moves_bare links moves)
 
-link_over : (o : Option LinkCfg) → option_map_or (λ (link : LinkCfg). link.name.bytes) (option_map bare_link o) [] ≡ option_map_or (λ (link : LinkCfg). link.name.bytes) o []
+link_over : (o : Option LinkCfg)
+    → option_map_or (λ (link : LinkCfg). link.name.bytes) (option_map bare_link o) [] ≡ option_map_or (λ (link : LinkCfg). link.name.bytes) o []
 link_over None = refl
 link_over (Some link) = refl
 
@@ -266,7 +285,8 @@ marked_bare cfg e = ap (λ (texts : List (List ℕ)). 61 ∷ (32 ∷ (joined tex
 
 step_bare : (s : Setting) → step_lines (bare_setting s) ≡ step_lines s
 step_bare s = λ i w step.
-    map (λ o. output_line_of (name_bare s.cfg step.node i) (w.node step.node).ticks o (pos (path_bare s.cfg step.node i)) (Some (w.clock step.node).off)) step.outs
+    map
+    (λ o. output_line_of (name_bare s.cfg step.node i) (w.node step.node).ticks o (pos (path_bare s.cfg step.node i)) (Some (w.clock step.node).off)) step.outs
 
 lines_bare : (s : Setting) (events : List Happened) → loop_lines (bare_setting s) events ≡ loop_lines s events
 lines_bare s [] = refl
@@ -282,12 +302,14 @@ closing_bare s l = ap (λ (counts : List ℕ). counts ++ concat (forged_lines l.
 
 -- What is due
 
-closes_bare : (s : Setting) (seed : ℕ) (calls : List LinkCall) (lines : List (List ℕ)) (last : List ℕ) → LoopCloses s seed calls lines last → LoopCloses (bare_setting s) seed calls lines last
+closes_bare : (s : Setting) (seed : ℕ) (calls : List LinkCall) (lines : List (List ℕ)) (last : List ℕ) → LoopCloses s seed calls lines last
+    → LoopCloses (bare_setting s) seed calls lines last
 unfolding ended_bare
 closes_bare s seed calls lines last h =
     (ended_bare s seed lines calls Over h.0, h.1 ∙ ap₂ (λ (a b : List ℕ). a ++ b) (text_bare s (events_at (place h.0.last))) (closing_bare s (place h.0.last)))
 
-breaks_bare : (s : Setting) (seed : ℕ) (calls : List LinkCall) (lines : List (List ℕ)) (status : Status) (last : List ℕ) → LoopBreaks s seed calls lines status last → LoopBreaks (bare_setting s) seed calls lines status last
+breaks_bare : (s : Setting) (seed : ℕ) (calls : List LinkCall) (lines : List (List ℕ)) (status : Status) (last : List ℕ)
+    → LoopBreaks s seed calls lines status last → LoopBreaks (bare_setting s) seed calls lines status last
 unfolding ended_bare short_bare failed_bare
 breaks_bare s seed calls lines TooLarge last h =
     (ended_bare s seed lines calls Large h.0, h.1 ∙ ap (λ (l : List ℕ). l ++ large_line event_limit) (text_bare s (events_at (place h.0.last))))
@@ -296,7 +318,8 @@ breaks_bare s seed calls lines LinkFault last (inl none) = inl none
 breaks_bare s seed calls lines LinkFault last (inr h) = inr (failed_bare s seed lines calls h.0, h.1 ∙ text_bare s (events_at h.0.at))
 breaks_bare s seed calls lines _ last h = absurd h
 
-pub bare_loop : (s : Setting) (seed : ℕ) (calls : List LinkCall) (lines : List (List ℕ)) (status : Status) (octets : List ℕ) → RecordsAnswer (loop_of s seed calls) lines status octets → RecordsAnswer (loop_of (bare_setting s) seed calls) lines status octets
+pub bare_loop : (s : Setting) (seed : ℕ) (calls : List LinkCall) (lines : List (List ℕ)) (status : Status) (octets : List ℕ)
+    → RecordsAnswer (loop_of s seed calls) lines status octets → RecordsAnswer (loop_of (bare_setting s) seed calls) lines status octets
 bare_loop s seed calls = due_so (loop_of s seed calls) (loop_of (bare_setting s) seed calls) (record {
   accepts = λ lines text h. (h.0, said_bare s lines h.0 h.1, h.2);
   refuses = refuses_bare s;

@@ -32,7 +32,8 @@ maybe_word false text is = (is, tt)
 
 -- Names
 
-link_name : (o : Option LinkCfg) → ((link : LinkCfg) → o ≡ Some link → is_name link.name.bytes ≡ true) → IsWord (option_map_or (λ (link : LinkCfg). link.name.bytes) o [])
+link_name : (o : Option LinkCfg) → ((link : LinkCfg) → o ≡ Some link → is_name link.name.bytes ≡ true)
+    → IsWord (option_map_or (λ (link : LinkCfg). link.name.bytes) o [])
 link_name None h = refl
 link_name (Some link) h = name_word link.name.bytes (h link refl)
 
@@ -41,7 +42,8 @@ link_word cfg names l = link_name (slice_get cfg.links.items l) (λ link e. name
 
 -- Changes
 
-drifts_are : (nodes : List NodeCfg) (drifts : List ℤ) → ((i : ℕ) (node : NodeCfg) → slice_get nodes i ≡ Some node → is_name node.name.bytes ≡ true) → AreWords (drift_texts nodes drifts)
+drifts_are : (nodes : List NodeCfg) (drifts : List ℤ) → ((i : ℕ) (node : NodeCfg) → slice_get nodes i ≡ Some node → is_name node.name.bytes ≡ true)
+    → AreWords (drift_texts nodes drifts)
 drifts_are [] drifts named = tt
 drifts_are (node ∷ nodes) [] named = tt
 drifts_are (node ∷ nodes) (drift ∷ drifts) named =
@@ -50,7 +52,8 @@ drifts_are (node ∷ nodes) (drift ∷ drifts) named =
     (both_words node.name.bytes 61 (signed_decimal drift) (name_word node.name.bytes (named 0 node refl)) refl (signed_word drift)))
     (drifts_are nodes drifts (λ i other e. named (suc i) other e))
 
-moves_are : (links : List LinkCfg) (moves : List (ℤ × ℤ)) → ((i : ℕ) (link : LinkCfg) → slice_get links i ≡ Some link → is_name link.name.bytes ≡ true) → AreWords (move_texts links moves)
+moves_are : (links : List LinkCfg) (moves : List (ℤ × ℤ)) → ((i : ℕ) (link : LinkCfg) → slice_get links i ≡ Some link → is_name link.name.bytes ≡ true)
+    → AreWords (move_texts links moves)
 moves_are [] moves named = tt
 moves_are (link ∷ links) [] named = tt
 moves_are (link ∷ links) (move ∷ moves) named =

@@ -32,7 +32,8 @@ pub record Writes : Type 0 where
 -- the records mean events of a network, of which that is written
 pub record MeansEvents (s : Setting) (M : LineMeaning) (w : Writes) : Type 0 where
   pub accepts : (lines : List (List ℕ)) (t : List ℕ) → M.accepts lines t → (events : List Happened) × IsAudit s lines events × (t ≡ w.text events)
-  pub refuses : (lines : List (List ℕ)) (line : List ℕ) (refusal : Refusal) (last : List ℕ) → M.refuses lines line refusal last → AuditRefuses s lines line refusal last
+  pub refuses :
+      (lines : List (List ℕ)) (line : List ℕ) (refusal : Refusal) (last : List ℕ) → M.refuses lines line refusal last → AuditRefuses s lines line refusal last
   pub closes : (lines : List (List ℕ)) (events : List Happened) (last : List ℕ) → IsAudit s lines events → M.closes lines last → last ≡ w.counts events
   pub never : (lines : List (List ℕ)) (status : Status) (t : List ℕ) → M.breaks_off lines status t → ⊥
 
@@ -76,7 +77,8 @@ pub record AreTold (input : List ℕ) (s : Setting) (w : Writes) (status : Statu
 in_front : (front text last octets : List ℕ) → octets ≡ front ++ last → front ≡ text → octets ≡ text ++ last
 in_front front text last octets is same = is ∙ ap (λ (l : List ℕ). l ++ last) same
 
-wholly : (input octets : List ℕ) (s : Setting) (M : LineMeaning) (w : Writes) → MeansEvents s M w → IsWholly M (behind_separator (lines_of input)) octets → AreTold input s w Done octets
+wholly : (input octets : List ℕ) (s : Setting) (M : LineMeaning) (w : Writes) → MeansEvents s M w → IsWholly M (behind_separator (lines_of input)) octets
+    → AreTold input s w Done octets
 wholly input octets s M w means h =
     let told = means.accepts _ h.written h.handled.accepted in
     record {
@@ -90,7 +92,8 @@ wholly input octets s M w means h =
       is = in_front h.written (w.text told.0) h.last octets h.is told.2;
     }
 
-refused : (input octets : List ℕ) (s : Setting) (M : LineMeaning) (w : Writes) → MeansEvents s M w → IsRefused M refusals.BadTrace (behind_separator (lines_of input)) octets → AreTold input s w BadTrace octets
+refused : (input octets : List ℕ) (s : Setting) (M : LineMeaning) (w : Writes) → MeansEvents s M w
+    → IsRefused M refusals.BadTrace (behind_separator (lines_of input)) octets → AreTold input s w BadTrace octets
 refused input octets s M w means h =
     let told = means.accepts _ h.written h.handled.accepted in
     record {
@@ -104,7 +107,8 @@ refused input octets s M w means h =
       is = in_front h.written (w.text told.0) h.last octets h.is told.2;
     }
 
-broken : (input octets : List ℕ) (s : Setting) (M : LineMeaning) (w : Writes) → MeansEvents s M w → IsRefused M refusals.Broken (behind_separator (lines_of input)) octets → AreTold input s w Broken octets
+broken : (input octets : List ℕ) (s : Setting) (M : LineMeaning) (w : Writes) → MeansEvents s M w
+    → IsRefused M refusals.Broken (behind_separator (lines_of input)) octets → AreTold input s w Broken octets
 broken input octets s M w means h =
     let told = means.accepts _ h.written h.handled.accepted in
     record {
@@ -118,7 +122,8 @@ broken input octets s M w means h =
       is = in_front h.written (w.text told.0) h.last octets h.is told.2;
     }
 
-large : (input octets : List ℕ) (s : Setting) (M : LineMeaning) (w : Writes) → MeansEvents s M w → IsLarge M (behind_separator (lines_of input)) octets → AreTold input s w TooLarge octets
+large : (input octets : List ℕ) (s : Setting) (M : LineMeaning) (w : Writes) → MeansEvents s M w → IsLarge M (behind_separator (lines_of input)) octets
+    → AreTold input s w TooLarge octets
 large input octets s M w means h =
     let told = means.accepts _ h.written h.handled.accepted in
     record {
@@ -132,7 +137,8 @@ large input octets s M w means h =
       is = in_front h.written (w.text told.0) (large_line (length h.before + 1)) octets h.is told.2;
     }
 
-firsts : (input octets : List ℕ) (s : Setting) (M : LineMeaning) (w : Writes) → MeansEvents s M w → AreFirst M (behind_separator (lines_of input)) octets → AreTold input s w OutOfMemory octets
+firsts : (input octets : List ℕ) (s : Setting) (M : LineMeaning) (w : Writes) → MeansEvents s M w → AreFirst M (behind_separator (lines_of input)) octets
+    → AreTold input s w OutOfMemory octets
 firsts input octets s M w means h =
     let told = means.accepts _ octets h.handled.accepted in
     record {
@@ -148,11 +154,13 @@ firsts input octets s M w means h =
 
 -- Answers
 
-pub stand_first : (input octets : List ℕ) (s : Setting) (M : LineMeaning) (w : Writes) → MeansEvents s M w → StandsFirst M (behind_separator (lines_of input)) octets → AreTold input s w OutOfMemory octets
+pub stand_first : (input octets : List ℕ) (s : Setting) (M : LineMeaning) (w : Writes) → MeansEvents s M w
+    → StandsFirst M (behind_separator (lines_of input)) octets → AreTold input s w OutOfMemory octets
 stand_first input octets s M w means (inl first) = firsts input octets s M w means first
 stand_first input octets s M w means (inr off) = absurd (means.never _ _ _ off.broken)
 
-pub records_due : (input : List ℕ) (status : Status) (octets : List ℕ) (s : Setting) (M : LineMeaning) (w : Writes) → MeansEvents s M w → RecordsAnswer M (behind_separator (lines_of input)) status octets → AreTold input s w status octets
+pub records_due : (input : List ℕ) (status : Status) (octets : List ℕ) (s : Setting) (M : LineMeaning) (w : Writes) → MeansEvents s M w
+    → RecordsAnswer M (behind_separator (lines_of input)) status octets → AreTold input s w status octets
 records_due input Done octets s M w means h = wholly input octets s M w means h
 records_due input BadTrace octets s M w means h = refused input octets s M w means h
 records_due input Broken octets s M w means h = broken input octets s M w means h
@@ -164,13 +172,16 @@ records_due input _ octets s M w means h = absurd h
 -- Where the source failed
 
 -- the network text of the whole input is the one that came, and the whole records among what was taken are told
-pub cut_due : (input taken left octets : List ℕ) (s : Setting) (M : LineMeaning) (w : Writes) (front back text : List ℕ) → MeansEvents s M w → input ≡ taken ++ left → taken ≡ front ++ back → Divides front text → CutHandled M.accepts back octets →
+pub cut_due : (input taken left octets : List ℕ) (s : Setting) (M : LineMeaning) (w : Writes) (front back text : List ℕ) → MeansEvents s M w
+    → input ≡ taken ++ left → taken ≡ front ++ back → Divides front text → CutHandled M.accepts back octets →
     (network_text input ≡ text) × AreTold input s w ReadFault octets
 cut_due input taken left octets s M w front back text means all goes divides cut =
     let is : input ≡ front ++ (back ++ left) = all ∙ ap (λ (l : List ℕ). l ++ left) goes ∙ append_assoc front back left in
-    let parts : (network_text (front ++ (back ++ left)) ≡ text) × (behind_separator (lines_of (front ++ (back ++ left))) ≡ lines_of (back ++ left)) = divides (back ++ left) in
+    let parts : (network_text (front ++ (back ++ left)) ≡ text) × (behind_separator (lines_of (front ++ (back ++ left))) ≡ lines_of (back ++ left)) =
+    divides (back ++ left) in
     let lines_are : lines_of (back ++ left) ≡ cut.lines ++ lines_of (cut.cut ++ left) =
-    ap (λ (l : List ℕ). lines_of (l ++ left)) cut.all ∙ ap lines_of (append_assoc (concat cut.lines) cut.cut left) ∙ lines_behind cut.lines (cut.cut ++ left) cut.whole in
+    ap (λ (l : List ℕ). lines_of (l ++ left)) cut.all ∙ ap lines_of (append_assoc (concat cut.lines) cut.cut left)
+    ∙ lines_behind cut.lines (cut.cut ++ left) cut.whole in
     let told = means.accepts _ octets cut.handled.accepted in (
       ap network_text is ∙ parts.0,
       record {

@@ -33,7 +33,8 @@ use Rattle.wrp_asked.proofs.LinkOnLines.{lines_are_earned}
 -- A run
 
 -- what holds of each event that a line says holds of these, which lines say
-all_said : (cfg : NetCfg) (P : Event → Type 0) → ((line : List ℕ) (e : Event) → event_read cfg line ≡ Ok e → P e) → (lines : List (List ℕ)) (events : List Happened) →
+all_said : (cfg : NetCfg) (P : Event → Type 0) → ((line : List ℕ) (e : Event) → event_read cfg line ≡ Ok e → P e)
+    → (lines : List (List ℕ)) (events : List Happened) →
     map (event_read cfg) lines ≡ map (λ (h : Happened). Ok h.event) events → AllByRecursion (λ (h : Happened). P h.event) events
 all_said cfg P said [] [] e = tt
 all_said cfg P said [] (h ∷ events) e = absurd (cc)
@@ -56,7 +57,8 @@ turned P (x ∷ xs) h =
     let both : P x × AllByRecursion P (reverse xs) = all_but_last P (reverse xs) x (subst (AllByRecursion P) (reverse-append (x ∷ []) xs) h) in
     (both.0, turned P xs both.1)
 
-pub events_said : (P : Event → Type 0) (s : Setting) → ((line : List ℕ) (e : Event) → event_read s.cfg line ≡ Ok e → P e) → (lines : List (List ℕ)) (events : List Happened) → AreEvents s lines events →
+pub events_said : (P : Event → Type 0) (s : Setting) → ((line : List ℕ) (e : Event) → event_read s.cfg line ≡ Ok e → P e)
+    → (lines : List (List ℕ)) (events : List Happened) → AreEvents s lines events →
     AllByRecursion (λ (h : Happened). P h.event) events
 events_said P s said lines events are = turned (λ (h : Happened). P h.event) events (all_said s.cfg P said lines (reverse events) are)
 
@@ -73,14 +75,16 @@ network_of accepted text s h =
 pub setting_asked : (asked : CommandLine) (text : List ℕ) (s : Setting) → AsksEventsOf asked text s → IsSettingOf text s
 setting_asked asked text s asks = elim asks [ inl audit ↦ audit.2 | inr emission ↦ emission.2.2.0 ]
 
-pub run_of : EventsCanCome → ReadingIsAccepted → (asked : CommandLine) (input : List ℕ) (s : Setting) (events : List Happened) → Came asked input s events → IsRun s events
+pub run_of : EventsCanCome → ReadingIsAccepted → (asked : CommandLine) (input : List ℕ) (s : Setting) (events : List Happened) → Came asked input s events
+    → IsRun s events
 run_of can accepted asked input s events came = record {
   network = network_of accepted (network_text input) s (setting_asked asked (network_text input) s came.asks);
   each = all_events s.cfg events (events_said (IsEventOf s.cfg) s (can s.cfg) _ events came.audit.are);
   accepted = came.audit.run.accepted;
 }
 
-at_each : (s : Setting) (P : List Happened → Happened → Type 0) → ((h : Happened) (before : List Happened) → IsRun s (h ∷ before) → P before h) → (events : List Happened) → IsRun s events → AtEachEvent P events
+at_each : (s : Setting) (P : List Happened → Happened → Type 0) → ((h : Happened) (before : List Happened) → IsRun s (h ∷ before) → P before h)
+    → (events : List Happened) → IsRun s events → AtEachEvent P events
 at_each s P f [] run = tt
 at_each s P f (h ∷ before) run = (f h before run, at_each s P f before (run_before s h before run))
 
@@ -90,13 +94,15 @@ at_each s P f (h ∷ before) run = (f h before run, at_each s P f before (run_be
 abbrev pub writes : (Output → Bool) → Writing
 writes has_line s before h = flat_map (lines_by has_line s (world_after s (h ∷ before))) (steps_at s before h)
 
-only_counts : (has_line : Output → Bool) (s : Setting) (before : List Happened) (h : Happened) (n p reason : ℕ) → LeavesACount s before h n p reason → OnlyCounts (writes has_line) s before h n p reason
+only_counts : (has_line : Output → Bool) (s : Setting) (before : List Happened) (h : Happened) (n p reason : ℕ) → LeavesACount s before h n p reason
+    → OnlyCounts (writes has_line) s before h n p reason
 only_counts has_line s before h n p reason leaves = record {
   unwritten = no_lines has_line s (world_after s (h ∷ before)) (steps_at s before h) leaves.silent;
   leaves = leaves;
 }
 
-counts_if : (has_line : Output → Bool) (s : Setting) (before : List Happened) (h : Happened) (g : Given) (input : Input) → DropsLeaveACount s before h g.to g input → OnlyCountsIf (writes has_line) s before h g input
+counts_if : (has_line : Output → Bool) (s : Setting) (before : List Happened) (h : Happened) (g : Given) (input : Input)
+    → DropsLeaveACount s before h g.to g input → OnlyCountsIf (writes has_line) s before h g input
 counts_if has_line s before h g (Frame p octets raw sample) f = λ reason why. only_counts has_line s before h g.to p reason (f reason why)
 counts_if has_line s before h g Tick f = tt
 counts_if has_line s before h g (Sample number base bits) f = tt
@@ -104,14 +110,17 @@ counts_if has_line s before h g (Sent p seq delay stamp) f = tt
 counts_if has_line s before h g (Carrier p up own_module) f = tt
 counts_if has_line s before h g Reset f = tt
 
-all_count : (has_line : Output → Bool) (s : Setting) (before : List Happened) (h : Happened) (gs : List Given) → AllByRecursion (λ (g : Given). DropsLeaveACount s before h g.to g g.input) gs →
+all_count : (has_line : Output → Bool) (s : Setting) (before : List Happened) (h : Happened) (gs : List Given)
+    → AllByRecursion (λ (g : Given). DropsLeaveACount s before h g.to g g.input) gs →
     AllByRecursion (λ (g : Given). OnlyCountsIf (writes has_line) s before h g g.input) gs
 all_count has_line s before h gs f =
-    all_weaker (λ (g : Given). DropsLeaveACount s before h g.to g g.input) (λ (g : Given). OnlyCountsIf (writes has_line) s before h g g.input) (λ g k. counts_if has_line s before h g g.input k) gs f
+    all_weaker (λ (g : Given). DropsLeaveACount s before h g.to g g.input) (λ (g : Given). OnlyCountsIf (writes has_line) s before h g g.input)
+    (λ g k. counts_if has_line s before h g g.input k) gs f
 
 -- Lines
 
-earned_at : (has_line : Output → Bool) (s : Setting) (h : Happened) (before : List Happened) → LinksHold s h before → IsRun s (h ∷ before) → IsEarnedAt (writes has_line) s before h
+earned_at : (has_line : Output → Bool) (s : Setting) (h : Happened) (before : List Happened) → LinksHold s h before → IsRun s (h ∷ before)
+    → IsEarnedAt (writes has_line) s before h
 earned_at has_line s h before holds run = record {
   ports = holds.handshakes;
   lines = lines_are_earned has_line s (world_after s (h ∷ before)) (steps_at s before h) run.network.accepted.names holds.reports;
@@ -120,11 +129,13 @@ earned_at has_line s h before holds run = record {
 -- All parts
 
 -- whichever outputs have a line
-pub parts_of : (has_line : Output → Bool) → LinksHoldInRuns → (s : Setting) (events : List Happened) → IsRun s events → TracksAreWithin (writes has_line) s events → HopByHop s events →
+pub parts_of : (has_line : Output → Bool) → LinksHoldInRuns → (s : Setting) (events : List Happened) → IsRun s events
+    → TracksAreWithin (writes has_line) s events → HopByHop s events →
     CarriesParts (writes has_line) s events
 parts_of has_line links s events run tracks hops = record {
   tracks = tracks;
   hops = hops;
   link_on = at_each s (IsEarnedAt (writes has_line) s) (λ h before r. earned_at has_line s h before (links s h before r) r) events run;
-  drops = at_each s (DropsCountAt (writes has_line) s) (λ h before r. all_count has_line s before h (given_at s before h) (links s h before r).drops) events run;
+  drops =
+      at_each s (DropsCountAt (writes has_line) s) (λ h before r. all_count has_line s before h (given_at s before h) (links s h before r).drops) events run;
 }

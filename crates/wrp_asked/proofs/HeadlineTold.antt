@@ -27,7 +27,8 @@ abbrev pub IsDue : CommandLine → List ℕ → List LinkCall → Status → Lis
 IsDue asked input calls status due = ReachesNone input status due ⊎ StepsOf asked input status due
 
 -- where an audit is asked for, what holds of every task holds if it does of an audit
-only_audit : (asked : CommandLine) (text : List ℕ) (P : Task → Type 0) (Q : Type 0) → IsAuditing asked → ((s : Setting) → AsksFor asked text (Audit s) → P (Audit s) → Q) → (task : Task) → AsksFor asked text task → P task → Q
+only_audit : (asked : CommandLine) (text : List ℕ) (P : Task → Type 0) (Q : Type 0) → IsAuditing asked
+    → ((s : Setting) → AsksFor asked text (Audit s) → P (Audit s) → Q) → (task : Task) → AsksFor asked text task → P task → Q
 only_audit asked text P Q audits f (Audit s) asks h = f s asks h
 only_audit asked text P Q audits f task asks h = let bad : requests.Audit ≡ (task_row task).command = one_command asked requests.Audit (task_row task).command audits asks.1 in absurd (cc)
 
@@ -36,7 +37,8 @@ unlooped seed e = cc
 
 -- Records
 
-steps_of : (asked : CommandLine) (input : List ℕ) (status : Status) (octets : List ℕ) (s : Setting) → AsksFor asked (network_text input) (Audit s) → AreTold input s (audit_writes s) status octets → StepsOf asked input status octets
+steps_of : (asked : CommandLine) (input : List ℕ) (status : Status) (octets : List ℕ) (s : Setting) → AsksFor asked (network_text input) (Audit s)
+    → AreTold input s (audit_writes s) status octets → StepsOf asked input status octets
 steps_of asked input status octets s asks told = record {
   setting = s;
   events = told.events;
@@ -46,26 +48,30 @@ steps_of asked input status octets s asks told = record {
   is = told.is;
 }
 
-task_due : OneAudit → (asked : CommandLine) (input : List ℕ) (status : Status) (octets : List ℕ) (task : Task) → IsAuditing asked → AsksFor asked (network_text input) task →
+task_due : OneAudit → (asked : CommandLine) (input : List ℕ) (status : Status) (octets : List ℕ) (task : Task) → IsAuditing asked
+    → AsksFor asked (network_text input) task →
     RecordsAnswer (meaning_at task) (behind_separator (lines_of input)) status octets → IsDue asked input [] status octets
 task_due one asked input status octets task audits asks due =
     inr (only_audit asked (network_text input) (λ task. RecordsAnswer (meaning_at task) (behind_separator (lines_of input)) status octets) (StepsOf asked input status octets) audits
     (λ s asks due. steps_of asked input status octets s asks (records_due input status octets s (audit_of s) (audit_writes s) (audit_means one s) due)) task asks due)
 
-task_first : OneAudit → (asked : CommandLine) (input octets : List ℕ) (task : Task) → IsAuditing asked → AsksFor asked (network_text input) task → StandsFirst (meaning_at task) (behind_separator (lines_of input)) octets →
+task_first : OneAudit → (asked : CommandLine) (input octets : List ℕ) (task : Task) → IsAuditing asked → AsksFor asked (network_text input) task
+    → StandsFirst (meaning_at task) (behind_separator (lines_of input)) octets →
     IsDue asked input [] OutOfMemory octets
 task_first one asked input octets task audits asks first =
     inr (only_audit asked (network_text input) (λ t. StandsFirst (meaning_at t) (behind_separator (lines_of input)) octets) (StepsOf asked input OutOfMemory octets) audits
     (λ s own due. steps_of asked input OutOfMemory octets s own (stand_first input octets s (audit_of s) (audit_writes s) (audit_means one s) due)) task asks first)
 
 -- where the source failed
-cut_steps : OneAudit → (asked : CommandLine) (input taken left octets : List ℕ) (s : Setting) → input ≡ taken ++ left → (h : CutTask asked taken octets) → AsksFor asked h.text (Audit s) → CutHandled (audit_of s).accepts h.back octets →
+cut_steps : OneAudit → (asked : CommandLine) (input taken left octets : List ℕ) (s : Setting) → input ≡ taken ++ left → (h : CutTask asked taken octets)
+    → AsksFor asked h.text (Audit s) → CutHandled (audit_of s).accepts h.back octets →
     StepsOf asked input ReadFault octets
 cut_steps one asked input taken left octets s all h asks cut =
     let both = cut_due input taken left octets s (audit_of s) (audit_writes s) h.front h.back h.text (audit_means one s) all h.all h.divides cut in
     steps_of asked input ReadFault octets s (subst (λ (t : List ℕ). AsksFor asked t (Audit s)) (sym both.0) asks) both.1
 
-task_cut : OneAudit → (asked : CommandLine) (input taken left octets : List ℕ) → IsAuditing asked → input ≡ taken ++ left → CutTask asked taken octets → IsDue asked input [] ReadFault octets
+task_cut : OneAudit → (asked : CommandLine) (input taken left octets : List ℕ) → IsAuditing asked → input ≡ taken ++ left → CutTask asked taken octets
+    → IsDue asked input [] ReadFault octets
 task_cut one asked input taken left octets audits all h =
     inr (only_audit asked h.text (λ task. CutHandled (meaning_at task).accepts h.back octets) (StepsOf asked input ReadFault octets) audits
     (λ s asks cut. cut_steps one asked input taken left octets s all h asks cut) h.task h.asks h.handled)
@@ -90,10 +96,12 @@ audit_so one asked audits = record {
 abbrev pub IsTold : CommandLine → (held now : Option (List ℕ)) → Status → List ℕ → Type 0
 IsTold asked held now status input = (octets : List ℕ) × Appends held now octets × Headline asked input status octets
 
-headline_of : EventsCarryParts → (run : Run) (input : List ℕ) (status : Status) → PrintsDue (IsDue run.asked) run status input → IsTold run.asked run.sink.before run.sink.now status input
+headline_of : EventsCarryParts → (run : Run) (input : List ℕ) (status : Status) → PrintsDue (IsDue run.asked) run status input
+    → IsTold run.asked run.sink.before run.sink.now status input
 headline_of parts run input status h = (h.0, h.2, record { prints = h.4; carries = λ s events came. parts run.asked input s events came })
 
-pub headline_told : EventsCarryParts → OneAudit → (run : Run) (status : Status) → Ends run status → IsAuditing run.asked → IfSome run.source.before (IsTold run.asked run.sink.before run.sink.now status)
+pub headline_told : EventsCarryParts → OneAudit → (run : Run) (status : Status) → Ends run status → IsAuditing run.asked
+    → IfSome run.source.before (IsTold run.asked run.sink.before run.sink.now status)
 headline_told parts one run status ends audits = go run.source.before refl
   where
     go : (o : Option (List ℕ)) → run.source.before ≡ o → IfSome o (IsTold run.asked run.sink.before run.sink.now status)

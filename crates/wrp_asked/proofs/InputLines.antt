@@ -37,7 +37,8 @@ joined_word (text ∷ next ∷ texts) h = word_append text (44 ∷ join_with_byt
 
 -- Fields
 
-module_word : (db : Database) (test : ModuleAt → Bool) (o : Option ModuleAt) → IsSoundDatabase db → find test db.modules ≡ o → IsWord (unwrap_or (option_map (λ (m : ModuleAt). m.name) o) [])
+module_word : (db : Database) (test : ModuleAt → Bool) (o : Option ModuleAt) → IsSoundDatabase db → find test db.modules ≡ o
+    → IsWord (unwrap_or (option_map (λ (m : ModuleAt). m.name) o) [])
 module_word db test None sound e = refl
 module_word db test (Some m) sound e =
     let at = found_at test db.modules m e in
@@ -46,7 +47,8 @@ module_word db test (Some m) sound e =
 entry_word : (site : LineSetting) (port : ℕ) (entry : Option Module) → IsSoundDatabase site.db → IsWord (module_text site port entry)
 entry_word site port None sound = refl
 entry_word site port (Some values) sound =
-    module_word site.db (λ (m : ModuleAt). has_values values (module_of site port m.name)) (find (λ (m : ModuleAt). has_values values (module_of site port m.name)) site.db.modules) sound refl
+    module_word site.db (λ (m : ModuleAt). has_values values (module_of site port m.name))
+    (find (λ (m : ModuleAt). has_values values (module_of site port m.name)) site.db.modules) sound refl
 
 message_word : (delay : Bool) → IsWord (message_text delay)
 message_word true = refl
@@ -99,13 +101,16 @@ pass_step P of_word s n step sound =
     pass_where P (step.node == n) (input_line (line_setting_in s n) step.input ++ 10 ∷ [])
     (pass_line P of_word (input_line (line_setting_in s n) step.input) (input_word (line_setting_in s n) step.input sound))
 
-pass_steps : (P : List ℕ → Type 0) → HoldsOfWords P → (s : Setting) (n : ℕ) (steps : List NodeStepAt) → IsSoundDatabase s.db → Passes P (flat_map (given_line s n) steps)
+pass_steps : (P : List ℕ → Type 0) → HoldsOfWords P → (s : Setting) (n : ℕ) (steps : List NodeStepAt) → IsSoundDatabase s.db
+    → Passes P (flat_map (given_line s n) steps)
 pass_steps P of_word s n [] sound = λ rest k. k
 pass_steps P of_word s n (step ∷ steps) sound =
     pass_both P (given_line s n step) (flat_map (given_line s n) steps) (pass_step P of_word s n step sound) (pass_steps P of_word s n steps sound)
 
 -- the lines of the inputs that events give a node
-pub pass_events : (P : List ℕ → Type 0) → HoldsOfWords P → (s : Setting) (n : ℕ) (events : List Happened) → IsSoundDatabase s.db → Passes P (given_lines s n events)
+pub pass_events : (P : List ℕ → Type 0) → HoldsOfWords P → (s : Setting) (n : ℕ) (events : List Happened) → IsSoundDatabase s.db
+    → Passes P (given_lines s n events)
 pass_events P of_word s n [] sound = λ rest k. k
 pass_events P of_word s n (h ∷ before) sound =
-    pass_both P (given_lines s n before) (flat_map (given_line s n) (steps_at s before h)) (pass_events P of_word s n before sound) (pass_steps P of_word s n (steps_at s before h) sound)
+    pass_both P (given_lines s n before) (flat_map (given_line s n) (steps_at s before h)) (pass_events P of_word s n before sound)
+    (pass_steps P of_word s n (steps_at s before h) sound)

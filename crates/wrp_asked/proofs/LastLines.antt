@@ -45,12 +45,14 @@ use Rattle.wrp_trace.specs.LineSetting.{has_port, line_setting_in}
 
 -- Counters
 
-count_told : (s : Setting) → IsNetwork s → (n port : ℕ) (reason : Reason) (none : Bool) (value : ℕ) → AllByRecursion TellsNoTrack (count_if (name_at s.cfg n) port reason none value)
+count_told : (s : Setting) → IsNetwork s → (n port : ℕ) (reason : Reason) (none : Bool) (value : ℕ)
+    → AllByRecursion TellsNoTrack (count_if (name_at s.cfg n) port reason none value)
 count_told s net n port reason true value = tt
 count_told s net n port reason false value =
     (fourth (name_at s.cfg n) (codes "count") (decimal port) (reason_word (number_of reason)) (decimal value ∷ []) (at_word s.cfg net.accepted.names n) refl (decimal_low port), tt)
 
-port_told : (s : Setting) → IsNetwork s → (n : ℕ) (has : Bool) (port : ℕ) (counters : List ℕ) → AllByRecursion TellsNoTrack (port_if (name_at s.cfg n) has port counters)
+port_told : (s : Setting) → IsNetwork s → (n : ℕ) (has : Bool) (port : ℕ) (counters : List ℕ)
+    → AllByRecursion TellsNoTrack (port_if (name_at s.cfg n) has port counters)
 port_told s net n true port counters =
     flat_all TellsNoTrack (λ reason. count_if (name_at s.cfg n) port reason (count_at counters (number_of reason) == 0) (count_at counters (number_of reason)))
     (λ reason. count_told s net n port reason (count_at counters (number_of reason) == 0) (count_at counters (number_of reason))) reasons
@@ -69,7 +71,8 @@ forged_told count false = (two_words (codes "forged") (decimal count) refl (deci
 -- texts of whole lines
 pass_lines : (P : List ℕ → Type 0) (lines : List (List ℕ)) → AllByRecursion IsWhole lines → AllByRecursion P lines → Passes P (concat lines)
 pass_lines P [] whole told = λ rest k. k
-pass_lines P (line ∷ lines) whole told = pass_both P line (concat lines) (λ rest k. line_in_front P line rest whole.0 told.0 k) (pass_lines P lines whole.1 told.1)
+pass_lines P (line ∷ lines) whole told =
+    pass_both P line (concat lines) (λ rest k. line_in_front P line rest whole.0 told.0 k) (pass_lines P lines whole.1 told.1)
 
 counts_pass : (s : Setting) → IsNetwork s → (w : WorldAt) → Passes TellsNoTrack (all_counts s w)
 counts_pass s net w = subst (Passes TellsNoTrack) (counts_text s w) (pass_lines TellsNoTrack (count_lines s w) (counts_whole s net w) (counts_told s net w))
@@ -84,42 +87,49 @@ closing_told s net l =
 
 -- Sums
 
-sum_in_front : (name : List ℕ) (ticks tracks worst : ℕ) (bound : ℤ) (state : ServoState) (rest : List ℕ) → IsWord name → AllByRecursion TellsNoTrack (lines_of rest) →
+sum_in_front : (name : List ℕ) (ticks tracks worst : ℕ) (bound : ℤ) (state : ServoState) (rest : List ℕ) → IsWord name
+    → AllByRecursion TellsNoTrack (lines_of rest) →
     AllByRecursion TellsNoTrack (lines_of (sum_line_of name ticks tracks worst bound state ++ rest))
 sum_in_front name ticks tracks worst bound state rest h told =
     line_in_front TellsNoTrack (sum_line_of name ticks tracks worst bound state) rest
     (line_whole (name ∷ sum_words ticks tracks worst bound (servo_word state)) (h, (refl, (decimal_word ticks, (decimal_word tracks, (decimal_word worst, (signed_word bound, (servo_are state, tt))))))))
     (fourth name (codes "sum") (decimal ticks) (decimal tracks) (decimal worst ∷ signed_decimal bound ∷ servo_word state ∷ []) h refl (decimal_low ticks)) told
 
-sums_told : (s : Setting) → IsNetwork s → (events : List Happened) (nodes : List ℕ) → AllByRecursion TellsNoTrack (lines_of (flat_map (node_sum s events) nodes))
+sums_told : (s : Setting) → IsNetwork s → (events : List Happened) (nodes : List ℕ)
+    → AllByRecursion TellsNoTrack (lines_of (flat_map (node_sum s events) nodes))
 sums_told s net events [] = tt
 sums_told s net events (n ∷ nodes) =
     sum_in_front (name_at s.cfg n) ((world_after s events).node n).ticks (count_of (tracked s n events)) (worst_of (tracked s n events)) (pos (path_of s.cfg n))
-    (state_of (node_setting_of s n) ((world_after s events).node n)) (flat_map (node_sum s events) nodes) (at_word s.cfg net.accepted.names n) (sums_told s net events nodes)
+    (state_of (node_setting_of s n) ((world_after s events).node n)) (flat_map (node_sum s events) nodes) (at_word s.cfg net.accepted.names n)
+    (sums_told s net events nodes)
 
 -- What follows the lines of the events
 
 -- of a scenario that is refused
-pub names_tells : (status : Status) (s : Setting) (front : List (List ℕ)) (line octets : List ℕ) → NamesLine status s front line octets → AllByRecursion TellsNoTrack (lines_of octets)
+pub names_tells : (status : Status) (s : Setting) (front : List (List ℕ)) (line octets : List ℕ) → NamesLine status s front line octets
+    → AllByRecursion TellsNoTrack (lines_of octets)
 names_tells BadTrace s front line octets is = told_as octets _ is.4 (bad_trace _ is.2)
 names_tells TooLarge s front line octets is = told_as octets (large_line (length front + 1)) is.1 (large (length front + 1))
 names_tells status s front line octets is = absurd is
 
 -- of a simulation
-pub after_tells : (status : Status) (s : Setting) (scene : SceneAt) (events : List Happened) (at : SimAt) (last : List ℕ) → IsNetwork s → StandsAfter status s scene events at last → AllByRecursion TellsNoTrack (lines_of last)
+pub after_tells : (status : Status) (s : Setting) (scene : SceneAt) (events : List Happened) (at : SimAt) (last : List ℕ) → IsNetwork s
+    → StandsAfter status s scene events at last → AllByRecursion TellsNoTrack (lines_of last)
 after_tells Done s scene events at last net ends = told_as last (sum_lines s events) ends.1 (sums_told s net events (nodes_of s))
 after_tells TooLarge s scene events at last net ends = told_as last (large_line (length events + 1)) ends.3 (large (length events + 1))
 after_tells OutOfMemory s scene events at last net ends = no_line last ends
 after_tells status s scene events at last net ends = absurd ends
 
 -- of a run over a link
-pub loop_tells : (status : Status) (x : Plan) (calls later : List LinkCall) (last : Going) (text : List ℕ) → IsNetwork x.setting → StandsBehind status x calls later last text → AllByRecursion TellsNoTrack (lines_of text)
+pub loop_tells : (status : Status) (x : Plan) (calls later : List LinkCall) (last : Going) (text : List ℕ) → IsNetwork x.setting
+    → StandsBehind status x calls later last text → AllByRecursion TellsNoTrack (lines_of text)
 loop_tells Done x calls later last text net ends = told_as text (closing_lines x.setting (place last)) ends.2 (closing_told x.setting net (place last))
 loop_tells TooLarge x calls later last text net ends = told_as text (large_line event_limit) ends.2 (large event_limit)
 loop_tells LinkFault x calls later last text net ends = no_line text ends.1
 loop_tells OutOfMemory x calls later last text net ends = no_line text ends.1
 loop_tells status x calls later last text net ends = absurd ends
 
-pub link_tells : (asked : CommandLine) (input : List ℕ) (calls : List LinkCall) (status : Status) (octets : List ℕ) → LacksLink asked input calls status octets → AllByRecursion TellsNoTrack (lines_of octets)
+pub link_tells : (asked : CommandLine) (input : List ℕ) (calls : List LinkCall) (status : Status) (octets : List ℕ) → LacksLink asked input calls status octets
+    → AllByRecursion TellsNoTrack (lines_of octets)
 link_tells asked input calls LinkFault octets lacks = no_line octets lacks.none
 link_tells asked input calls status octets lacks = absurd lacks

@@ -49,7 +49,8 @@ on_word p (In Calibrated) e = absurd (let f : 99 ≡ 108 = ap head_of e in omega
 on_word p (In RespCalib) e = absurd (let f : 114 ≡ 108 = ap head_of e in omega (arith, f))
 on_word p (In LinkOn) e = refl
 
-link_says : (p : ℕ) (word : LinkWord) (port : List ℕ) → IsWord port → codes "link" ++ 32 ∷ (decimal p ++ 32 ∷ (link_word word ++ 10 ∷ [])) ≡ OnLine port → SaysOn (Report (Link p word)) port
+link_says : (p : ℕ) (word : LinkWord) (port : List ℕ) → IsWord port → codes "link" ++ 32 ∷ (decimal p ++ 32 ∷ (link_word word ++ 10 ∷ [])) ≡ OnLine port
+    → SaysOn (Report (Link p word)) port
 link_says p word port h e =
     let tail : decimal p ++ 32 ∷ (link_word word ++ 10 ∷ []) ≡ port ++ 32 ∷ (codes "link-on" ++ 10 ∷ []) =
     ap (λ (l : List ℕ). rest_of (rest_of (rest_of (rest_of (rest_of l))))) e in
@@ -68,25 +69,30 @@ says (Report (Track est)) bound truth port h e = absurd (let f : 116 ≡ 108 = a
 on_there : (s : Setting) (w : WorldAt) (n : ℕ) (o : Output) (port : List ℕ) → IsEarnedReport s w n o → (h : SaysOn o port) → IsOn s w n h.number
 on_there s w n o port true_ h = subst (IsEarnedReport s w n) h.is true_
 
-line_earned : (s : Setting) (w : WorldAt) (n tick : ℕ) (o : Output) (truth : Option ℤ) → HasNames s.cfg → IsEarnedReport s w n o → IsEarnedLine s w (output_line s.cfg n tick o truth)
+line_earned : (s : Setting) (w : WorldAt) (n tick : ℕ) (o : Output) (truth : Option ℤ) → HasNames s.cfg → IsEarnedReport s w n o
+    → IsEarnedLine s w (output_line s.cfg n tick o truth)
 line_earned s w n tick o truth names true_ = λ node at port a b c e.
     let bound : ℤ = pos (path_of s.cfg n) in
     let parts : name_at s.cfg n ++ 32 ∷ (decimal tick ++ 32 ∷ line_of (output_words o bound truth)) ≡ node ++ 32 ∷ (at ++ 32 ∷ OnLine port) =
     sym (behind_two (name_at s.cfg n) (decimal tick) o bound truth) ∙ e in
-    let one = first_word (name_at s.cfg n) node 32 32 (decimal tick ++ 32 ∷ line_of (output_words o bound truth)) (at ++ 32 ∷ OnLine port) (at_word s.cfg names n) a refl refl parts in
+    let one =
+    first_word (name_at s.cfg n) node 32 32 (decimal tick ++ 32 ∷ line_of (output_words o bound truth)) (at ++ 32 ∷ OnLine port)
+    (at_word s.cfg names n) a refl refl parts in
     let two = first_word (decimal tick) at 32 32 (line_of (output_words o bound truth)) (OnLine port) (decimal_word tick) b refl refl one.rest in
     let on : SaysOn o port = says o bound truth port c two.rest in
     (n, on.number, one.word, on.written, on_there s w n o port true_ on)
 
 -- All lines of an event
 
-step_earned : (s : Setting) (w : WorldAt) (step : NodeStepAt) → HasNames s.cfg → AreTrueReports s w step → AllByRecursion (λ (o : Output). IsEarnedLine s w (line_at s w step.node o)) step.outs
+step_earned : (s : Setting) (w : WorldAt) (step : NodeStepAt) → HasNames s.cfg → AreTrueReports s w step
+    → AllByRecursion (λ (o : Output). IsEarnedLine s w (line_at s w step.node o)) step.outs
 step_earned s w step names are =
     all_weaker (IsEarnedReport s w step.node) (λ (o : Output). IsEarnedLine s w (line_at s w step.node o))
     (λ o true_. line_earned s w step.node (w.node step.node).ticks o (Some (w.clock step.node).off) names true_) step.outs are
 
 -- each line of the steps of an event
-pub lines_are_earned : (has_line : Output → Bool) (s : Setting) (w : WorldAt) (steps : List NodeStepAt) → HasNames s.cfg → AllByRecursion (AreTrueReports s w) steps →
+pub lines_are_earned : (has_line : Output → Bool) (s : Setting) (w : WorldAt) (steps : List NodeStepAt) → HasNames s.cfg
+    → AllByRecursion (AreTrueReports s w) steps →
     AllByRecursion (IsEarnedLine s w) (lines_of (flat_map (lines_by has_line s w) steps))
 lines_are_earned has_line s w steps names are =
     steps_lines (IsEarnedLine s w) has_line s w steps names

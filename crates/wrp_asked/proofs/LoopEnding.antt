@@ -36,14 +36,16 @@ never_linked asked source sink ends = elim (ends still refl).0 [
   | inr greatest ↦ let none = greatest.0 in omega (arith, none)
 ]
 
-pub unlinked : (asked : CommandLine) (source sink : Passage (List ℕ)) (status : Status) (link : Passage (List LinkCall)) → EndsUnlinked asked source sink status → IsSound link → FailsBy LinkFault status link
+pub unlinked : (asked : CommandLine) (source sink : Passage (List ℕ)) (status : Status) (link : Passage (List LinkCall)) → EndsUnlinked asked source sink status
+    → IsSound link → FailsBy LinkFault status link
 unlinked asked source sink status link ends sound = record {
   failed = λ is. absurd (never_linked asked source sink (subst (EndsUnlinked asked source sink) is ends));
   sound = λ other. sound;
 }
 
 -- a network that is refused is told by no other status than these
-pub refuses_other : (fault : ConfFault) (given other : Status) (before now : Option (List ℕ)) → RefusesNetwork fault given before now → (OutOfMemory ≡ other → ⊥) → (BadNetwork ≡ other → ⊥) → (WriteFault ≡ other → ⊥) → given ≡ other → ⊥
+pub refuses_other : (fault : ConfFault) (given other : Status) (before now : Option (List ℕ)) → RefusesNetwork fault given before now
+    → (OutOfMemory ≡ other → ⊥) → (BadNetwork ≡ other → ⊥) → (WriteFault ≡ other → ⊥) → given ≡ other → ⊥
 refuses_other (Fault code place) given other before now (inl memory) a b c is = a (sym memory.0 ∙ is)
 refuses_other (Fault code place) given other before now (inr (inl all)) a b c is = b (sym all.0 ∙ is)
 refuses_other (Fault code place) given other before now (inr (inr cut)) a b c is = c (sym cut.0 ∙ is)
@@ -67,19 +69,23 @@ network_link e = cc
 write_link : WriteFault ≡ LinkFault → ⊥
 write_link e = cc
 
-pub refused_unread : (fault : ConfFault) (given : Status) (before now : Option (List ℕ)) (source : Passage (List ℕ)) → RefusesNetwork fault given before now → IsSound source → FailsBy ReadFault given source
+pub refused_unread : (fault : ConfFault) (given : Status) (before now : Option (List ℕ)) (source : Passage (List ℕ)) → RefusesNetwork fault given before now
+    → IsSound source → FailsBy ReadFault given source
 refused_unread fault given before now source how sound =
     record { failed = λ is. absurd (refuses_other fault given ReadFault before now how memory_read network_read write_read is); sound = λ other. sound }
 
-pub refused_unlinked : (fault : ConfFault) (given : Status) (before now : Option (List ℕ)) (link : Passage (List LinkCall)) → RefusesNetwork fault given before now → IsSound link → FailsBy LinkFault given link
+pub refused_unlinked : (fault : ConfFault) (given : Status) (before now : Option (List ℕ)) (link : Passage (List LinkCall))
+    → RefusesNetwork fault given before now → IsSound link → FailsBy LinkFault given link
 refused_unlinked fault given before now link how sound =
     record { failed = λ is. absurd (refuses_other fault given LinkFault before now how memory_link network_link write_link is); sound = λ other. sound }
 
 -- What is told of all records
 
 -- what holds of all record lines, where the input ended, in the whole input
-both_told : (P : List (List ℕ) → Type 0) (Q : List ℕ → Type 0) (asked : CommandLine) (first : Option (List ℕ)) (source : Passage (List ℕ)) (text given : List ℕ) (r : ReaderAt) (ended : Bool) (task : Task)
-    → TookNetwork asked first source.before text r task → Consumes source.before source.now given → (ended ≡ true → IsAtEnd source.now) → ended ≡ true → P (lines_of (r.rest ++ given))
+both_told : (P : List (List ℕ) → Type 0) (Q : List ℕ → Type 0) (asked : CommandLine) (first : Option (List ℕ)) (source : Passage (List ℕ)) (text given : List ℕ)
+    (r : ReaderAt) (ended : Bool) (task : Task)
+    → TookNetwork asked first source.before text r task → Consumes source.before source.now given → (ended ≡ true → IsAtEnd source.now) → ended ≡ true
+    → P (lines_of (r.rest ++ given))
     → ((input : List ℕ) → AsksFor asked (network_text input) task → P (behind_separator (lines_of input)) → Q input) → IfSome first Q
 both_told P Q asked None source text given r ended task net taken at_end is here means = tt
 both_told P Q asked (Some input) source text given r ended task net taken at_end is here means =
@@ -91,26 +97,32 @@ both_told P Q asked (Some input) source text given r ended task net taken at_end
 abbrev RanAt : Setting → ℕ → List LinkCall → Status → List ℕ → List (List ℕ) → Type 0
 RanAt s seed calls status text lines = Handles (SimAccepts s) lines [] × RanDue s seed (map content_of lines) calls status text
 
-done_at : (s : Setting) (seed : ℕ) (calls : List LinkCall) (text : List ℕ) (lines : List (List ℕ)) → RanAt s seed calls Done text lines → IsWholly (loop_of s seed calls) lines text
+done_at : (s : Setting) (seed : ℕ) (calls : List LinkCall) (text : List ℕ) (lines : List (List ℕ)) → RanAt s seed calls Done text lines
+    → IsWholly (loop_of s seed calls) lines text
 done_at s seed calls text lines h =
     record { written = []; last = text; handled = record { sizes = h.0.sizes; count = h.0.count; accepted = h.0.accepted }; closed = h.1; is = refl }
 
-broken_at : (s : Setting) (seed : ℕ) (calls : List LinkCall) (status : Status) (text : List ℕ) (lines : List (List ℕ)) → Handles (SimAccepts s) lines [] → LoopBreaks s seed calls (map content_of lines) status text
+broken_at : (s : Setting) (seed : ℕ) (calls : List LinkCall) (status : Status) (text : List ℕ) (lines : List (List ℕ)) → Handles (SimAccepts s) lines []
+    → LoopBreaks s seed calls (map content_of lines) status text
     → BreaksOff (loop_of s seed calls) status lines text
 broken_at s seed calls status text lines handled broken =
     record { written = []; last = text; handled = record { sizes = handled.sizes; count = handled.count; accepted = handled.accepted }; broken = broken; is = refl }
 
 -- what is due then
-answer_at : (asked : CommandLine) (input : List ℕ) (s : Setting) (seed : ℕ) (calls : List LinkCall) (status : Status) (text : List ℕ) → AsksFor asked (network_text input) (Loop s seed)
-    → RanAt s seed calls status text (behind_separator (lines_of input)) → ((own : Status) × Answer asked input calls own text) ⊎ FirstAnswer asked input calls text
+answer_at : (asked : CommandLine) (input : List ℕ) (s : Setting) (seed : ℕ) (calls : List LinkCall) (status : Status) (text : List ℕ)
+    → AsksFor asked (network_text input) (Loop s seed)
+    → RanAt s seed calls status text (behind_separator (lines_of input))
+    → ((own : Status) × Answer asked input calls own text) ⊎ FirstAnswer asked input calls text
 answer_at asked input s seed calls Done text asks h = inl (Done, inr (inr (s, seed, asks, done_at s seed calls text (behind_separator (lines_of input)) h)))
-answer_at asked input s seed calls TooLarge text asks h = inl (TooLarge, inr (inr (inr (s, seed, asks, broken_at s seed calls TooLarge text (behind_separator (lines_of input)) h.0 h.1))))
+answer_at asked input s seed calls TooLarge text asks h =
+    inl (TooLarge, inr (inr (inr (s, seed, asks, broken_at s seed calls TooLarge text (behind_separator (lines_of input)) h.0 h.1))))
 answer_at asked input s seed calls OutOfMemory text asks (handled, inl none) = inr (inl (none.1, none.0))
 answer_at asked input s seed calls OutOfMemory text asks (handled, inr broken) =
     inr (inr (inr (inr (s, seed, asks, broken_at s seed calls OutOfMemory text (behind_separator (lines_of input)) handled broken))))
 answer_at asked input s seed calls _ text asks h = absurd h.1
 
-first_at : (asked : CommandLine) (input : List ℕ) (s : Setting) (seed : ℕ) (calls : List LinkCall) (text : List ℕ) → AsksFor asked (network_text input) (Loop s seed)
+first_at : (asked : CommandLine) (input : List ℕ) (s : Setting) (seed : ℕ) (calls : List LinkCall) (text : List ℕ)
+    → AsksFor asked (network_text input) (Loop s seed)
     → RanAt s seed calls OutOfMemory text (behind_separator (lines_of input)) → FirstAnswer asked input calls text
 first_at asked input s seed calls text asks (handled, inl none) = inl (none.1, none.0)
 first_at asked input s seed calls text asks (handled, inr broken) =
@@ -120,7 +132,8 @@ first_at asked input s seed calls text asks (handled, inr broken) =
 abbrev WroteAt : Setting → ℕ → List LinkCall → List ℕ → List (List ℕ) → Type 0
 WroteAt s seed calls text lines = Handles (SimAccepts s) lines [] × RanSo s seed (map content_of lines) calls WriteFault text
 
-part_at : (asked : CommandLine) (input : List ℕ) (s : Setting) (seed : ℕ) (calls : List LinkCall) (text : List ℕ) → AsksFor asked (network_text input) (Loop s seed)
+part_at : (asked : CommandLine) (input : List ℕ) (s : Setting) (seed : ℕ) (calls : List LinkCall) (text : List ℕ)
+    → AsksFor asked (network_text input) (Loop s seed)
     → WroteAt s seed calls text (behind_separator (lines_of input)) → PartAnswer asked input calls text
 part_at asked input s seed calls text asks (handled, inl none) = ([], 0, none.1, inr (inl (refl, none.0)))
 part_at asked input s seed calls text asks (handled, inr so) = (so.1, so.2, so.3, answer_at asked input s seed calls so.0 so.1 asks (handled, so.4))
@@ -128,7 +141,8 @@ part_at asked input s seed calls text asks (handled, inr so) = (so.1, so.2, so.3
 -- How it ends
 
 -- no call leaves what a link tells
-kept : (link : Passage (List LinkCall)) (calls : List LinkCall) → link.now ≡ option_map (λ told. told ++ calls) link.before → calls ≡ [] → link.now ≡ link.before
+kept : (link : Passage (List LinkCall)) (calls : List LinkCall) → link.now ≡ option_map (λ told. told ++ calls) link.before → calls ≡ []
+    → link.now ≡ link.before
 kept link calls called none =
     called ∙ ap (λ (own : List LinkCall). option_map (λ told. told ++ own) link.before) none ∙ same link.before
   where
@@ -137,9 +151,12 @@ kept link calls called none =
     same (Some calls) = ap Some (append-nil calls)
 
 -- the network ran
-ran_ends : (asked : CommandLine) (first : Option (List ℕ)) (source sink : Passage (List ℕ)) (link : Passage (List LinkCall)) (text : List ℕ) (r : ReaderAt) (ended : Bool) (s : Setting) (seed : ℕ) (status : Status)
-    → TookNetwork asked first source.before text r (Loop s seed) → (at : LoopPasses s seed source sink link r.rest r.ended ended status) → ended ≡ true → Handles (SimAccepts s) (lines_of (r.rest ++ at.given)) []
-    → RanSo s seed (map content_of (lines_of (r.rest ++ at.given))) at.calls status at.octets → Ends (record { asked = asked; source = begun_at first source; sink = sink; link = link }) status
+ran_ends : (asked : CommandLine) (first : Option (List ℕ)) (source sink : Passage (List ℕ)) (link : Passage (List LinkCall)) (text : List ℕ) (r : ReaderAt)
+    (ended : Bool) (s : Setting) (seed : ℕ) (status : Status)
+    → TookNetwork asked first source.before text r (Loop s seed) → (at : LoopPasses s seed source sink link r.rest r.ended ended status) → ended ≡ true
+    → Handles (SimAccepts s) (lines_of (r.rest ++ at.given)) []
+    → RanSo s seed (map content_of (lines_of (r.rest ++ at.given))) at.calls status at.octets
+    → Ends (record { asked = asked; source = begun_at first source; sink = sink; link = link }) status
 ran_ends asked first source sink link text r ended s seed Done net at is handled so = (
   (
     inl (networked_of asked text (Loop s seed) net.asks),
@@ -147,7 +164,8 @@ ran_ends asked first source sink link text r ended s seed Done net at is handled
     at.calls,
     at.wrote,
     at.called,
-    both_told (RanAt s seed at.calls Done at.octets) (λ input. Answer asked input at.calls Done at.octets) asked first source text at.given r ended (Loop s seed) net at.taken at.at_end is (handled, so)
+    both_told (RanAt s seed at.calls Done at.octets) (λ input. Answer asked input at.calls Done at.octets) asked first source text at.given r ended
+        (Loop s seed) net at.taken at.at_end is (handled, so)
         (λ input asks h. inr (inr (s, seed, asks, done_at s seed at.calls at.octets (behind_separator (lines_of input)) h))),
   ),
   at.at_end is,
@@ -158,7 +176,8 @@ ran_ends asked first source sink link text r ended s seed TooLarge net at is han
   at.calls,
   at.wrote,
   at.called,
-  both_told (RanAt s seed at.calls TooLarge at.octets) (λ input. Answer asked input at.calls TooLarge at.octets) asked first source text at.given r ended (Loop s seed) net at.taken at.at_end is (handled, so)
+  both_told (RanAt s seed at.calls TooLarge at.octets) (λ input. Answer asked input at.calls TooLarge at.octets) asked first source text at.given r ended
+      (Loop s seed) net at.taken at.at_end is (handled, so)
       (λ input asks h. inr (inr (inr (s, seed, asks, broken_at s seed at.calls TooLarge at.octets (behind_separator (lines_of input)) h.0 h.1)))),
 )
 ran_ends asked first source sink link text r ended s seed OutOfMemory net at is handled so = (
@@ -166,7 +185,8 @@ ran_ends asked first source sink link text r ended s seed OutOfMemory net at is 
   at.calls,
   at.wrote,
   at.called,
-  both_told (RanAt s seed at.calls OutOfMemory at.octets) (λ input. FirstAnswer asked input at.calls at.octets) asked first source text at.given r ended (Loop s seed) net at.taken at.at_end is (handled, so)
+  both_told (RanAt s seed at.calls OutOfMemory at.octets) (λ input. FirstAnswer asked input at.calls at.octets) asked first source text at.given r ended
+      (Loop s seed) net at.taken at.at_end is (handled, so)
       (λ input asks h. first_at asked input s seed at.calls at.octets asks h),
 )
 ran_ends asked first source sink link text r ended s seed LinkFault net at is handled so = (
@@ -177,7 +197,8 @@ ran_ends asked first source sink link text r ended s seed LinkFault net at is ha
   at.calls,
   at.wrote,
   at.called,
-  both_told (λ lines. Handles (SimAccepts s) lines [] × LoopBreaks s seed at.calls (map content_of lines) LinkFault at.octets) (λ input. LoopBroken asked input at.calls LinkFault at.octets) asked first source text at.given r ended
+  both_told (λ lines. Handles (SimAccepts s) lines [] × LoopBreaks s seed at.calls (map content_of lines) LinkFault at.octets)
+      (λ input. LoopBroken asked input at.calls LinkFault at.octets) asked first source text at.given r ended
       (Loop s seed) net at.taken at.at_end is (handled, so)
       (λ input asks h. (s, seed, asks, broken_at s seed at.calls LinkFault at.octets (behind_separator (lines_of input)) h.0 h.1)),
 )
@@ -187,13 +208,16 @@ ran_ends asked first source sink link text r ended s seed WriteFault net at is h
   at.calls,
   at.wrote,
   at.called,
-  both_told (WroteAt s seed at.calls at.octets) (λ input. PartAnswer asked input at.calls at.octets) asked first source text at.given r ended (Loop s seed) net at.taken at.at_end is (handled, so)
+  both_told (WroteAt s seed at.calls at.octets) (λ input. PartAnswer asked input at.calls at.octets) asked first source text at.given r ended
+      (Loop s seed) net at.taken at.at_end is (handled, so)
       (λ input asks h. part_at asked input s seed at.calls at.octets asks h),
 )
 ran_ends asked first source sink link text r ended s seed _ net at is handled so = absurd so
 
-pub loop_ends : (asked : CommandLine) (first : Option (List ℕ)) (source sink : Passage (List ℕ)) (link : Passage (List LinkCall)) (text : List ℕ) (r : ReaderAt) (ended : Bool) (s : Setting) (seed : ℕ) (status : Status)
-    → TookNetwork asked first source.before text r (Loop s seed) → LoopPasses s seed source sink link r.rest r.ended ended status → Ends (record { asked = asked; source = begun_at first source; sink = sink; link = link }) status
+pub loop_ends : (asked : CommandLine) (first : Option (List ℕ)) (source sink : Passage (List ℕ)) (link : Passage (List LinkCall)) (text : List ℕ) (r : ReaderAt)
+    (ended : Bool) (s : Setting) (seed : ℕ) (status : Status)
+    → TookNetwork asked first source.before text r (Loop s seed) → LoopPasses s seed source sink link r.rest r.ended ended status
+    → Ends (record { asked = asked; source = begun_at first source; sink = sink; link = link }) status
 loop_ends asked first source sink link text r ended s seed status net at = elim at.stands [
   | inl stopped ↦
       records_end asked first source sink text r ended (Loop s seed) status net

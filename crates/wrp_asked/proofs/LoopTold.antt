@@ -39,7 +39,8 @@ use Rattle.wrp_asked.proofs.ToldWhole.{all_whole, audit_whole, counts_whole}
 use Rattle.wrp_asked.proofs.WordLemmas.{lacks_none, one_command}
 
 -- where a loop is asked for, what holds of every task holds if it does of a loop
-only_loop : (asked : CommandLine) (text : List ℕ) (seed : ℕ) (P : Task → Type 0) (Q : Type 0) → IsLooping asked seed → ((s : Setting) (own : ℕ) → AsksFor asked text (Loop s own) → P (Loop s own) → Q) → (task : Task) →
+only_loop : (asked : CommandLine) (text : List ℕ) (seed : ℕ) (P : Task → Type 0) (Q : Type 0) → IsLooping asked seed
+    → ((s : Setting) (own : ℕ) → AsksFor asked text (Loop s own) → P (Loop s own) → Q) → (task : Task) →
     AsksFor asked text task → P task → Q
 only_loop asked text seed P Q looping f (Loop s own) asks h = f s own asks h
 only_loop asked text seed P Q looping f task asks h = let bad : requests.Loop seed ≡ (task_row task).command = one_command asked (requests.Loop seed) (task_row task).command looping asks.1 in absurd (cc)
@@ -50,7 +51,8 @@ only_loop asked text seed P Q looping f task asks h = let bad : requests.Loop se
 only_last : (written last octets : List ℕ) → written ≡ [] → octets ≡ written ++ last → octets ≡ last
 only_last written last octets none is = is ∙ ap (λ (l : List ℕ). l ++ last) none
 
-refused : (asked : CommandLine) (input octets : List ℕ) (calls : List LinkCall) (s : Setting) (seed : ℕ) → AsksFor asked (network_text input) (Loop s seed) → calls ≡ [] →
+refused : (asked : CommandLine) (input octets : List ℕ) (calls : List LinkCall) (s : Setting) (seed : ℕ) → AsksFor asked (network_text input) (Loop s seed)
+    → calls ≡ [] →
     IsRefused (scenario_of s) refusals.BadTrace (behind_separator (lines_of input)) octets → LacksScene asked input calls BadTrace octets
 refused asked input octets calls s seed asks none h = record {
   setting = s;
@@ -62,11 +64,14 @@ refused asked input octets calls s seed asks none h = record {
   divided = h.divided;
   scene = h.handled.accepted.0;
   said = h.handled.accepted.1;
-  is = subst (SimRefuses s (map content_of h.before) (content_of h.line) refusals.BadTrace) (sym (only_last h.written h.last octets h.handled.accepted.2 h.is)) h.refused;
+  is =
+      subst (SimRefuses s (map content_of h.before) (content_of h.line) refusals.BadTrace)
+      (sym (only_last h.written h.last octets h.handled.accepted.2 h.is)) h.refused;
   uncalled = none;
 }
 
-large : (asked : CommandLine) (input octets : List ℕ) (calls : List LinkCall) (s : Setting) (seed : ℕ) → AsksFor asked (network_text input) (Loop s seed) → calls ≡ [] → IsLarge (scenario_of s) (behind_separator (lines_of input)) octets →
+large : (asked : CommandLine) (input octets : List ℕ) (calls : List LinkCall) (s : Setting) (seed : ℕ) → AsksFor asked (network_text input) (Loop s seed)
+    → calls ≡ [] → IsLarge (scenario_of s) (behind_separator (lines_of input)) octets →
     LacksScene asked input calls TooLarge octets
 large asked input octets calls s seed asks none h = record {
   setting = s;
@@ -82,7 +87,8 @@ large asked input octets calls s seed asks none h = record {
   uncalled = none;
 }
 
-scene_due : (asked : CommandLine) (input : List ℕ) (calls : List LinkCall) (status : Status) (octets : List ℕ) (s : Setting) (seed : ℕ) → AsksFor asked (network_text input) (Loop s seed) → calls ≡ [] →
+scene_due : (asked : CommandLine) (input : List ℕ) (calls : List LinkCall) (status : Status) (octets : List ℕ) (s : Setting) (seed : ℕ)
+    → AsksFor asked (network_text input) (Loop s seed) → calls ≡ [] →
     RecordsAnswer (scenario_of s) (behind_separator (lines_of input)) status octets → IsLoopDue asked input calls status octets
 scene_due asked input calls BadTrace octets s seed asks none h = inr (inl (refused asked input octets calls s seed asks none h))
 scene_due asked input calls TooLarge octets s seed asks none (inl one) = inr (inl (large asked input octets calls s seed asks none one))
@@ -95,12 +101,14 @@ scene_due asked input calls _ octets s seed asks none h = absurd h
 -- A loop
 
 -- what was written of its events, and what stands behind
-behind_events : (s : Setting) (last : Going) (written end_text octets text : List ℕ) → written ≡ [] → octets ≡ written ++ end_text → end_text ≡ loop_text s (events_at (place last)) ++ text
+behind_events : (s : Setting) (last : Going) (written end_text octets text : List ℕ) → written ≡ [] → octets ≡ written ++ end_text
+    → end_text ≡ loop_text s (events_at (place last)) ++ text
     → octets ≡ came_lines s (events_at (place last)) ++ text
 behind_events s last written end_text octets text none is ends =
     only_last written end_text octets none is ∙ ends ∙ ap (λ (l : List ℕ). l ++ text) (came_text s (events_at (place last)))
 
-over : (asked : CommandLine) (input octets : List ℕ) (calls : List LinkCall) (s : Setting) (seed : ℕ) → AsksFor asked (network_text input) (Loop s seed) → IsWholly (loop_of s seed calls) (behind_separator (lines_of input)) octets →
+over : (asked : CommandLine) (input octets : List ℕ) (calls : List LinkCall) (s : Setting) (seed : ℕ) → AsksFor asked (network_text input) (Loop s seed)
+    → IsWholly (loop_of s seed calls) (behind_separator (lines_of input)) octets →
     LoopOf asked input calls Done octets
 over asked input octets calls s seed asks h =
     let loop : LoopEnded s seed (map content_of (behind_separator (lines_of input))) calls Over = h.closed.0 in
@@ -124,7 +132,8 @@ over asked input octets calls s seed asks h =
       is = behind_events s loop.last h.written h.last octets (closing_lines s (place loop.last)) h.handled.accepted.2 h.is h.closed.1;
     }
 
-overrun : (asked : CommandLine) (input octets : List ℕ) (calls : List LinkCall) (s : Setting) (seed : ℕ) → AsksFor asked (network_text input) (Loop s seed) → BreaksOff (loop_of s seed calls) TooLarge (behind_separator (lines_of input)) octets →
+overrun : (asked : CommandLine) (input octets : List ℕ) (calls : List LinkCall) (s : Setting) (seed : ℕ) → AsksFor asked (network_text input) (Loop s seed)
+    → BreaksOff (loop_of s seed calls) TooLarge (behind_separator (lines_of input)) octets →
     LoopOf asked input calls TooLarge octets
 overrun asked input octets calls s seed asks h =
     let loop : LoopEnded s seed (map content_of (behind_separator (lines_of input))) calls Large = h.broken.0 in
@@ -149,11 +158,13 @@ overrun asked input octets calls s seed asks h =
     }
 
 -- the calls of the loop, and those behind them
-first_calls : (x : Plan) (calls : List LinkCall) (last : Going) → IsShort x calls last → (first : List LinkCall) × (later : List LinkCall) × (calls ≡ first ++ later) × Loops x first last
+first_calls : (x : Plan) (calls : List LinkCall) (last : Going) → IsShort x calls last
+    → (first : List LinkCall) × (later : List LinkCall) × (calls ≡ first ++ later) × Loops x first last
 first_calls x calls (On l) h = (h.before, h.made, h.all, h.loops)
 first_calls x calls (Full l) h = (calls, [], sym (append-nil calls), h)
 
-short : (asked : CommandLine) (input octets : List ℕ) (calls : List LinkCall) (s : Setting) (seed : ℕ) → AsksFor asked (network_text input) (Loop s seed) → BreaksOff (loop_of s seed calls) OutOfMemory (behind_separator (lines_of input)) octets →
+short : (asked : CommandLine) (input octets : List ℕ) (calls : List LinkCall) (s : Setting) (seed : ℕ) → AsksFor asked (network_text input) (Loop s seed)
+    → BreaksOff (loop_of s seed calls) OutOfMemory (behind_separator (lines_of input)) octets →
     LoopOf asked input calls OutOfMemory octets
 short asked input octets calls s seed asks h =
     let loop : LoopShort s seed (map content_of (behind_separator (lines_of input))) calls = h.broken.0 in
@@ -175,11 +186,15 @@ short asked input octets calls s seed asks h =
       };
       behind = [];
       ends = (loop.short, refl);
-      is = behind_events s loop.last h.written h.last octets [] h.handled.accepted.2 h.is (h.broken.1 ∙ sym (append-nil (loop_text s (events_at (place loop.last)))));
+      is =
+          behind_events s loop.last h.written h.last octets [] h.handled.accepted.2 h.is
+          (h.broken.1 ∙ sym (append-nil (loop_text s (events_at (place loop.last)))));
     }
 
-cut_off : (asked : CommandLine) (input octets written last : List ℕ) (calls : List LinkCall) (s : Setting) (seed : ℕ) → AsksFor asked (network_text input) (Loop s seed) →
-    (loop : LoopFailed s seed (map content_of (behind_separator (lines_of input))) calls) → written ≡ [] → octets ≡ written ++ last → last ≡ loop_text s (events_at loop.at) → LoopOf asked input calls LinkFault octets
+cut_off : (asked : CommandLine) (input octets written last : List ℕ) (calls : List LinkCall) (s : Setting) (seed : ℕ)
+    → AsksFor asked (network_text input) (Loop s seed) →
+    (loop : LoopFailed s seed (map content_of (behind_separator (lines_of input))) calls) → written ≡ [] → octets ≡ written ++ last
+    → last ≡ loop_text s (events_at loop.at) → LoopOf asked input calls LinkFault octets
 cut_off asked input octets written last calls s seed asks loop none is ends = record {
   setting = s;
   last = On loop.at;
@@ -200,7 +215,8 @@ cut_off asked input octets written last calls s seed asks loop none is ends = re
   is = behind_events s (On loop.at) written last octets [] none is (ends ∙ sym (append-nil (loop_text s (events_at loop.at))));
 }
 
-failed : (asked : CommandLine) (input octets : List ℕ) (calls : List LinkCall) (s : Setting) (seed : ℕ) → AsksFor asked (network_text input) (Loop s seed) → BreaksOff (loop_of s seed calls) LinkFault (behind_separator (lines_of input)) octets →
+failed : (asked : CommandLine) (input octets : List ℕ) (calls : List LinkCall) (s : Setting) (seed : ℕ) → AsksFor asked (network_text input) (Loop s seed)
+    → BreaksOff (loop_of s seed calls) LinkFault (behind_separator (lines_of input)) octets →
     IsLoopDue asked input calls LinkFault octets
 failed asked input octets calls s seed asks h = elim h.broken [
   | inl none ↦ inr (inr (inl (record {
@@ -215,31 +231,38 @@ failed asked input octets calls s seed asks h = elim h.broken [
   | inr loop ↦ inr (inr (inr (cut_off asked input octets h.written h.last calls s seed asks loop.0 h.handled.accepted.2 h.is loop.1)))
 ]
 
-looped_due : (asked : CommandLine) (input : List ℕ) (calls : List LinkCall) (status : Status) (octets : List ℕ) → LoopAnswer asked input calls status octets → IsLoopDue asked input calls status octets
+looped_due : (asked : CommandLine) (input : List ℕ) (calls : List LinkCall) (status : Status) (octets : List ℕ) → LoopAnswer asked input calls status octets
+    → IsLoopDue asked input calls status octets
 looped_due asked input calls Done octets h = inr (inr (inr (over asked input octets calls h.0 h.1 h.2 h.3)))
 looped_due asked input calls TooLarge octets h = inr (inr (inr (overrun asked input octets calls h.0 h.1 h.2 h.3)))
 looped_due asked input calls _ octets h = absurd h.3
 
 -- What is due
 
-task_due : (asked : CommandLine) (seed : ℕ) (input : List ℕ) (status : Status) (octets : List ℕ) (task : Task) → IsLooping asked seed → AsksFor asked (network_text input) task →
+task_due : (asked : CommandLine) (seed : ℕ) (input : List ℕ) (status : Status) (octets : List ℕ) (task : Task) → IsLooping asked seed
+    → AsksFor asked (network_text input) task →
     RecordsAnswer (meaning_at task) (behind_separator (lines_of input)) status octets → IsLoopDue asked input [] status octets
 task_due asked seed input status octets task looping asks due =
-    only_loop asked (network_text input) seed (λ t. RecordsAnswer (meaning_at t) (behind_separator (lines_of input)) status octets) (IsLoopDue asked input [] status octets) looping
+    only_loop asked (network_text input) seed (λ t. RecordsAnswer (meaning_at t) (behind_separator (lines_of input)) status octets)
+    (IsLoopDue asked input [] status octets) looping
     (λ s own a due. scene_due asked input [] status octets s own a refl due) task asks due
 
-scene_first : (asked : CommandLine) (input octets : List ℕ) (s : Setting) → StandsFirst (scenario_of s) (behind_separator (lines_of input)) octets → IsLoopDue asked input [] OutOfMemory octets
+scene_first : (asked : CommandLine) (input octets : List ℕ) (s : Setting) → StandsFirst (scenario_of s) (behind_separator (lines_of input)) octets
+    → IsLoopDue asked input [] OutOfMemory octets
 scene_first asked input octets s (inl first) = inl (first.handled.accepted.2, refl)
 scene_first asked input octets s (inr off) = absurd off.broken
 
-first_due : (asked : CommandLine) (seed : ℕ) (input octets : List ℕ) (task : Task) → IsLooping asked seed → AsksFor asked (network_text input) task → StandsFirst (meaning_at task) (behind_separator (lines_of input)) octets →
+first_due : (asked : CommandLine) (seed : ℕ) (input octets : List ℕ) (task : Task) → IsLooping asked seed → AsksFor asked (network_text input) task
+    → StandsFirst (meaning_at task) (behind_separator (lines_of input)) octets →
     IsLoopDue asked input [] OutOfMemory octets
 first_due asked seed input octets task looping asks first =
-    only_loop asked (network_text input) seed (λ t. StandsFirst (meaning_at t) (behind_separator (lines_of input)) octets) (IsLoopDue asked input [] OutOfMemory octets) looping
+    only_loop asked (network_text input) seed (λ t. StandsFirst (meaning_at t) (behind_separator (lines_of input)) octets)
+    (IsLoopDue asked input [] OutOfMemory octets) looping
     (λ s own a first. scene_first asked input octets s first) task asks first
 
 -- where the source failed, nothing was written
-cut_due : (asked : CommandLine) (seed : ℕ) (input taken octets : List ℕ) → IsLooping asked seed → CutTask asked taken octets → IsLoopDue asked input [] ReadFault octets
+cut_due : (asked : CommandLine) (seed : ℕ) (input taken octets : List ℕ) → IsLooping asked seed → CutTask asked taken octets
+    → IsLoopDue asked input [] ReadFault octets
 cut_due asked seed input taken octets looping cut =
     only_loop asked cut.text seed (λ task. CutHandled (meaning_at task).accepts cut.back octets) (IsLoopDue asked input [] ReadFault octets) looping
     (λ s own asks at. inl (at.handled.accepted.2, refl)) cut.task cut.asks cut.handled
@@ -260,7 +283,8 @@ loop_so asked seed looping = record {
   failed = λ input calls octets loop. failed asked input octets calls loop.0 loop.1 loop.2 loop.3;
 }
 
-pub loop_answer : (asked : CommandLine) (seed : ℕ) (input : List ℕ) (calls : List LinkCall) (status : Status) (octets : List ℕ) → IsLooping asked seed → Answer asked input calls status octets → IsLoopDue asked input calls status octets
+pub loop_answer : (asked : CommandLine) (seed : ℕ) (input : List ℕ) (calls : List LinkCall) (status : Status) (octets : List ℕ) → IsLooping asked seed
+    → Answer asked input calls status octets → IsLoopDue asked input calls status octets
 loop_answer asked seed input calls status octets looping h = answer_due asked input calls status octets (IsLoopDue asked) (loop_so asked seed looping) h
 
 -- The audit of its events
@@ -287,7 +311,8 @@ told_apart audited s last octets carried is =
       others = ap others_in lines ∙ law.1 ∙ ap (λ (l : List (List ℕ)). l ++ forged_lines forged) (sym rest);
     }
 
-apart_at : LoopedEventsCarryParts → LoopIsAudited → (asked : CommandLine) (input : List ℕ) (calls : List LinkCall) (octets : List ℕ) → IsLoopDue asked input calls Done octets → TellsApart asked input calls Done octets
+apart_at : LoopedEventsCarryParts → LoopIsAudited → (asked : CommandLine) (input : List ℕ) (calls : List LinkCall) (octets : List ℕ)
+    → IsLoopDue asked input calls Done octets → TellsApart asked input calls Done octets
 apart_at parts audited asked input calls octets (inl none) = absurd none.0
 apart_at parts audited asked input calls octets (inr (inl scene)) = absurd scene.is
 apart_at parts audited asked input calls octets (inr (inr (inl link))) = absurd link
@@ -295,7 +320,8 @@ apart_at parts audited asked input calls octets (inr (inr (inr loop))) =
     let run = parts asked input calls loop.setting loop.last loop.came in
     (loop, told_apart audited loop.setting loop.last octets run (loop.is ∙ ap (λ (l : List ℕ). came_lines loop.setting (events_at (place loop.last)) ++ l) loop.ends.2))
 
-apart : LoopedEventsCarryParts → LoopIsAudited → (asked : CommandLine) (input : List ℕ) (calls : List LinkCall) (status : Status) (octets : List ℕ) → PrintsTheLoop asked input calls status octets → TellsApart asked input calls status octets
+apart : LoopedEventsCarryParts → LoopIsAudited → (asked : CommandLine) (input : List ℕ) (calls : List LinkCall) (status : Status) (octets : List ℕ)
+    → PrintsTheLoop asked input calls status octets → TellsApart asked input calls status octets
 apart parts audited asked input calls Done octets h = apart_at parts audited asked input calls octets h
 apart parts audited asked input calls _ octets h = tt
 
@@ -304,7 +330,8 @@ abbrev pub IsLoopedSo : Run → Status → List ℕ → Type 0
 IsLoopedSo run status input =
     (octets : List ℕ) × (calls : List LinkCall) × Appends run.sink.before run.sink.now octets × Adds run.link.before run.link.now calls × LoopHeadline run.asked input calls status octets
 
-pub looped_told : LoopedEventsCarryParts → LoopIsAudited → (run : Run) (status : Status) (seed : ℕ) → Ends run status → IsLooping run.asked seed → IfSome run.source.before (IsLoopedSo run status)
+pub looped_told : LoopedEventsCarryParts → LoopIsAudited → (run : Run) (status : Status) (seed : ℕ) → Ends run status → IsLooping run.asked seed
+    → IfSome run.source.before (IsLoopedSo run status)
 looped_told parts audited run status seed ends looping = go run.source.before refl
   where
     go : (o : Option (List ℕ)) → run.source.before ≡ o → IfSome o (IsLoopedSo run status)

@@ -50,12 +50,14 @@ between_fits : (l : LoopAt) (e : Event) (next : Going) → FitsSave e → ComesB
 between_fits l e next fits (inl full) h = subst FitsAt (sym full.1) h
 between_fits l e next fits (inr came) h = subst FitsAt (sym came.4) (fits, h)
 
-follows_fits : (way : Way) (frame : ArrayVec ℕ) (l : LoopAt) (fate : Fate) (next : Going) → way.to.port < 2 ^ 16 → IsFrame frame → FollowsFate way frame l fate next → FitsAt (On l) → FitsAt next
+follows_fits : (way : Way) (frame : ArrayVec ℕ) (l : LoopAt) (fate : Fate) (next : Going) → way.to.port < 2 ^ 16 → IsFrame frame
+    → FollowsFate way frame l fate next → FitsAt (On l) → FitsAt next
 follows_fits way frame l (Handed i) next port is f h = between_fits l (Deliver i) next tt f h
 follows_fits way frame l Forged next port is f h = subst FitsAt (sym f) h
 follows_fits way frame l Noisy next port is f h = between_fits l _ next (port, is) f h
 
-all_fit : (x : Plan) (way : Way) (got : List (ArrayVec ℕ)) (now last : Going) → way.to.port < 2 ^ 16 → AllByRecursion IsFrame got → HandlesAll x way got now last → FitsAt now → FitsAt last
+all_fit : (x : Plan) (way : Way) (got : List (ArrayVec ℕ)) (now last : Going) → way.to.port < 2 ^ 16 → AllByRecursion IsFrame got
+    → HandlesAll x way got now last → FitsAt now → FitsAt last
 all_fit x way [] now last port are f h = subst FitsAt (sym f) h
 all_fit x way (frame ∷ got) (Full l) last port are f h = subst FitsAt (sym f) h
 all_fit x way (frame ∷ got) (On l) last port are f h =
@@ -81,7 +83,8 @@ all_parts (call ∷ a) b all = let rest = all_parts a b all.1 in ((all.0, rest.0
 
 -- Ports
 
-port_of : (s : Setting) → IsNetwork s → (k : ℕ) (r : Role) (o : Option LinkCfg) (end : End) → link_of s k ≡ o → option_map (end_of r) o ≡ Some end → end.port < 2 ^ 16
+port_of : (s : Setting) → IsNetwork s → (k : ℕ) (r : Role) (o : Option LinkCfg) (end : End) → link_of s k ≡ o → option_map (end_of r) o ≡ Some end
+    → end.port < 2 ^ 16
 port_of s net k r None end is found = absurd (cc)
 port_of s net k Master (Some link) end is found =
     let range : HasLinkRanges link = net.accepted.ranges.links k link is in
@@ -96,7 +99,8 @@ port_of s net k Slave (Some link) end is found =
 
 -- Rounds
 
-round_fits : (x : Plan) → IsNetwork x.setting → (l : LoopAt) (r : Round) (calls : List LinkCall) (next : Going) → AllByRecursion IsFrameCall calls → IsRound x l r calls next → FitsAt (On l) → FitsAt next
+round_fits : (x : Plan) → IsNetwork x.setting → (l : LoopAt) (r : Round) (calls : List LinkCall) (next : Going) → AllByRecursion IsFrameCall calls
+    → IsRound x l r calls next → FitsAt (On l) → FitsAt next
 round_fits x net l Plain calls next all r h = subst FitsAt (sym r.1.leads) h
 round_fits x net l Dropped calls next all r h = subst FitsAt (sym r.1.leads) h
 round_fits x net l Carried calls next all r h =
@@ -104,7 +108,8 @@ round_fits x net l Carried calls next all r h =
     let made = subst (AllByRecursion IsFrameCall) r.made all in
     all_fit x r.way r.got _ next port (received _ most_taken r.got r.few made.1) r.handled h
 
-goes_fit : (x : Plan) → IsNetwork x.setting → (now : Going) (rounds : List Round) (calls : List LinkCall) (last : Going) → AllByRecursion IsFrameCall calls → Goes x now rounds calls last → FitsAt now → FitsAt last
+goes_fit : (x : Plan) → IsNetwork x.setting → (now : Going) (rounds : List Round) (calls : List LinkCall) (last : Going) → AllByRecursion IsFrameCall calls
+    → Goes x now rounds calls last → FitsAt now → FitsAt last
 goes_fit x net now [] calls last all g h = subst FitsAt (sym g.1) h
 goes_fit x net (Full l) (r ∷ rounds) calls last all g h = absurd g
 goes_fit x net (On l) (r ∷ rounds) calls last all g h =
@@ -116,7 +121,8 @@ loops_fit x net calls last all loops = goes_fit x net _ loops.rounds loops.later
 
 -- All events
 
-driven_fit : (scene : SceneAt) (s : Setting) (seed : ℕ) (turns : List Turn) (at : SimAt) → IsDriven scene s seed turns at → AllAccepted s (events_of turns) → length (events_of turns) < 2 ^ 32 → FitBetween turns → AllFit (events_of turns)
+driven_fit : (scene : SceneAt) (s : Setting) (seed : ℕ) (turns : List Turn) (at : SimAt) → IsDriven scene s seed turns at → AllAccepted s (events_of turns)
+    → length (events_of turns) < 2 ^ 32 → FitBetween turns → AllFit (events_of turns)
 driven_fit scene s seed [] at driven accepted few fit = tt
 driven_fit scene s seed (Comes h ∷ turns) at driven accepted few fit =
     let before : List Happened = events_of turns in (
@@ -176,7 +182,9 @@ looped_events_carry_parts keeps accepted links tracks hops asked input calls s l
     let kept = keeps x came.first last net (scenario_fits s _ came.scene came.said) came.loops in
     let near : RunsNear s (events_at (place last)) = record {
       run = kept.0;
-      fit = driven_fit came.scene s came.seed (place last).turns (place last).at kept.1 kept.0.accepted (loops_few x came.first last came.loops) (loops_fit x net came.first last came.frames came.loops);
+      fit =
+          driven_fit came.scene s came.seed (place last).turns (place last).at kept.1 kept.0.accepted (loops_few x came.first last came.loops)
+          (loops_fit x net came.first last came.frames came.loops);
       answered = came.answered;
       near = laws_of accepted (network_text input) s came.asks.2;
     } in

@@ -11,7 +11,8 @@ use Rattle.wrp_asked.specs.SimHeadline.{Made}
 use Rattle.wrp_asked.proofs.HeadlineParts.{network_of}
 use Rattle.wrp_simulate.proofs.ScenesFit.{scenario_fits}
 
-pub made_run : SimRunsAreRuns → ReadingIsAccepted → (asked : CommandLine) (input : List ℕ) (s : Setting) (events : List Happened) → Made asked input s events → IsRun s events
+pub made_run : SimRunsAreRuns → ReadingIsAccepted → (asked : CommandLine) (input : List ℕ) (s : Setting) (events : List Happened) → Made asked input s events
+    → IsRun s events
 made_run runs accepted asked input s events made =
     let net : IsNetwork s = network_of accepted (network_text input) s made.asks.2 in
     runs made.scene s made.seed events made.at net (scenario_fits s _ made.scene made.said) made.simulated.run

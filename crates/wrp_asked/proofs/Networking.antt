@@ -72,16 +72,19 @@ records_behind (line ∷ lines) behind none =
     simp other (records_behind lines behind none.1)
 
 -- at the separator
-pub divides : (line : List ℕ) (r : ReaderAt) (left rest : Option (List ℕ)) (waiting : List ℕ) (number : ℕ) → (so_far : Coming NetworkLines Anything [] line r left rest None None waiting number)
+pub divides : (line : List ℕ) (r : ReaderAt) (left rest : Option (List ℕ)) (waiting : List ℕ) (number : ℕ)
+    → (so_far : Coming NetworkLines Anything [] line r left rest None None waiting number)
     → IsNext line r → is_separator line ≡ true → IsDivided so_far.given so_far.text r
 divides line r left rest waiting number so_far next is =
-    let whole : AllByRecursion IsWhole so_far.lines = whole_before NetworkLines Anything [] line r left rest None None waiting number so_far (next_some line r next) in
+    let whole : AllByRecursion IsWhole so_far.lines =
+    whole_before NetworkLines Anything [] line r left rest None None waiting number so_far (next_some line r next) in
     let front : List ℕ = concat so_far.lines ++ line in
     let goes : so_far.given ≡ front ++ r.rest = so_far.all ∙ sym (append_assoc (concat so_far.lines) line r.rest) in
     let text_is : (behind : List (List ℕ)) → before_separator (so_far.lines ++ line ∷ behind) ≡ so_far.text =
     λ behind.
     let none : before_separator (line ∷ behind) ≡ [] = simp is refl in
-    network_before so_far.lines (line ∷ behind) so_far.handled.none ∙ ap (λ l. concat so_far.lines ++ l) none ∙ append-nil (concat so_far.lines) ∙ sym so_far.handled.is in
+    network_before so_far.lines (line ∷ behind) so_far.handled.none ∙ ap (λ l. concat so_far.lines ++ l) none ∙ append-nil (concat so_far.lines)
+    ∙ sym so_far.handled.is in
     let records_are : (behind : List (List ℕ)) → behind_separator (so_far.lines ++ line ∷ behind) ≡ behind =
     λ behind.
     let all : behind_separator (line ∷ behind) ≡ behind = simp is refl in
@@ -91,7 +94,8 @@ divides line r left rest waiting number so_far next is =
         front,
         goes,
         λ more.
-            let here : lines_of (line ++ more) ≡ line ∷ lines_of more = subst (λ (l : List ℕ). lines_of (l ++ more) ≡ l ∷ lines_of more) (sym one.is) (lines_of-whole one.front more one.plain) in
+            let here : lines_of (line ++ more) ≡ line ∷ lines_of more =
+            subst (λ (l : List ℕ). lines_of (l ++ more) ≡ l ∷ lines_of more) (sym one.is) (lines_of-whole one.front more one.plain) in
             let are : lines_of (front ++ more) ≡ so_far.lines ++ line ∷ lines_of more =
             ap lines_of (append_assoc (concat so_far.lines) line more) ∙ lines_behind so_far.lines (line ++ more) whole ∙ ap (λ ls. so_far.lines ++ ls) here in
             (ap before_separator are ∙ text_is (lines_of more), ap behind_separator are ∙ records_are (lines_of more)),
@@ -104,7 +108,8 @@ divides line r left rest waiting number so_far next is =
     ]
 
 -- at the end of the input
-pub divides_at_end : (line : List ℕ) (r : ReaderAt) (left rest : Option (List ℕ)) (waiting : List ℕ) (number : ℕ) → (so_far : Coming NetworkLines Anything [] line r left rest None None waiting number)
+pub divides_at_end : (line : List ℕ) (r : ReaderAt) (left rest : Option (List ℕ)) (waiting : List ℕ) (number : ℕ)
+    → (so_far : Coming NetworkLines Anything [] line r left rest None None waiting number)
     → IsLast r → line ≡ [] → IsDivided so_far.given so_far.text r
 divides_at_end line r left rest waiting number so_far last none =
     let nothing : line ++ r.rest ≡ [] = ap (λ l. l ++ r.rest) none ∙ last.none in
@@ -139,7 +144,8 @@ begins_short cut tail is plain =
     begins_word cut (tail ++ 13 ∷ 10 ∷ []) (codes "---\r") (sym (append_assoc cut tail (13 ∷ 10 ∷ [])) ∙ ap (λ l. l ++ 13 ∷ 10 ∷ []) is) plain
 
 -- what a line is that says the word, read from its last octet
-word_from_back : (octets : List ℕ) → without_end octets ≡ codes "---" → (octets ≡ codes "---") ⊎ ((octets ≡ 10 ∷ codes "---") ⊎ (octets ≡ 10 ∷ 13 ∷ codes "---"))
+word_from_back : (octets : List ℕ) → without_end octets ≡ codes "---"
+    → (octets ≡ codes "---") ⊎ ((octets ≡ 10 ∷ codes "---") ⊎ (octets ≡ 10 ∷ 13 ∷ codes "---"))
 word_from_back [] is = absurd (cc)
 word_from_back (octet ∷ []) is =
     elim (octet == 10) as (λ b. (octet == 10) ≡ b → ((octet ∷ []) ≡ codes "---") ⊎ (((octet ∷ []) ≡ 10 ∷ codes "---") ⊎ ((octet ∷ []) ≡ 10 ∷ 13 ∷ codes "---"))) [
@@ -167,7 +173,8 @@ no_separator cut tail plain never =
       | true ↦ λ is.
           let said : content_of (cut ++ tail) ≡ codes "---" = (bytes_eq-Decides (content_of (cut ++ tail)) (codes "---")).0 is in
           let back : without_end (reverse (cut ++ tail)) ≡ codes "---" = sym (reverse-reverse _) ∙ ap reverse said in
-          let forth : (word : List ℕ) → reverse (cut ++ tail) ≡ word → cut ++ tail ≡ reverse word = λ word e. sym (reverse-reverse (cut ++ tail)) ∙ ap reverse e in
+          let forth : (word : List ℕ) → reverse (cut ++ tail) ≡ word → cut ++ tail ≡ reverse word =
+          λ word e. sym (reverse-reverse (cut ++ tail)) ∙ ap reverse e in
           elim (word_from_back (reverse (cut ++ tail)) back) [
             | inl one ↦ absurd (never (begins_short cut tail (forth _ one) plain))
             | inr more ↦ elim more [
@@ -180,10 +187,12 @@ no_separator cut tail plain never =
     ] refl
 
 -- a line of too many octets
-pub too_long_line : (line : List ℕ) (r : ReaderAt) (left rest : Option (List ℕ)) (waiting : List ℕ) (number : ℕ) → (so_far : Coming NetworkLines Anything [] line r left rest None None waiting number)
+pub too_long_line : (line : List ℕ) (r : ReaderAt) (left rest : Option (List ℕ)) (waiting : List ℕ) (number : ℕ)
+    → (so_far : Coming NetworkLines Anything [] line r left rest None None waiting number)
     → IsNext line r → is_separator line ≡ false → network_limit < length so_far.text + length line → IsTooLong so_far.given r
 too_long_line line r left rest waiting number so_far next other long more goes =
-    let whole : AllByRecursion IsWhole so_far.lines = whole_before NetworkLines Anything [] line r left rest None None waiting number so_far (next_some line r next) in
+    let whole : AllByRecursion IsWhole so_far.lines =
+    whole_before NetworkLines Anything [] line r left rest None None waiting number so_far (next_some line r next) in
     let are : lines_of (so_far.given ++ more) ≡ so_far.lines ++ line ∷ lines_of (r.rest ++ more) =
     ap (λ l. lines_of (l ++ more)) so_far.all ∙ ap lines_of (append_assoc (concat so_far.lines) (line ++ r.rest) more)
     ∙ ap (λ l. lines_of (concat so_far.lines ++ l)) (append_assoc line r.rest more)
@@ -197,7 +206,8 @@ too_long_line line r left rest waiting number so_far next other long more goes =
     omega arith
 
 -- a cut line of too many octets
-pub too_long_cut : (line : List ℕ) (r : ReaderAt) (left rest : Option (List ℕ)) (waiting : List ℕ) (number : ℕ) → (so_far : Coming NetworkLines Anything [] line r left rest None None waiting number)
+pub too_long_cut : (line : List ℕ) (r : ReaderAt) (left rest : Option (List ℕ)) (waiting : List ℕ) (number : ℕ)
+    → (so_far : Coming NetworkLines Anything [] line r left rest None None waiting number)
     → IsCut line r → (StartsWith (codes "---\r") line → ⊥) → 0 < length line → network_limit < length so_far.text + length line → IsTooLong so_far.given r
 too_long_cut line r left rest waiting number so_far cut never some long more goes =
     let whole : AllByRecursion IsWhole so_far.lines = whole_before NetworkLines Anything [] line r left rest None None waiting number so_far some in
@@ -212,14 +222,18 @@ too_long_cut line r left rest waiting number so_far cut never some long more goe
     ap before_separator are ∙ network_before so_far.lines _ so_far.handled.none
     ∙ ap (λ l. concat so_far.lines ++ l) front ∙ ap (λ l. l ++ ((line ++ on.0) ++ before_separator on.1)) (sym so_far.handled.is) in
     let size : length (network_text (so_far.given ++ more)) ≡ length so_far.text + (length line + length on.0 + length (before_separator on.1)) =
-    ap length is ∙ length-append so_far.text _ ∙ ap (λ n. length so_far.text + n) (length-append (line ++ on.0) _ ∙ ap (λ n. n + length (before_separator on.1)) (length-append line on.0)) in
+    ap length is ∙ length-append so_far.text _
+    ∙ ap (λ n. length so_far.text + n) (length-append (line ++ on.0) _ ∙ ap (λ n. n + length (before_separator on.1)) (length-append line on.0)) in
     omega arith
 
 -- where the source failed
-pub undivided : (line : List ℕ) (r : ReaderAt) (left rest : Option (List ℕ)) (waiting : List ℕ) (number : ℕ) → (so_far : Coming NetworkLines Anything [] line r left rest None None waiting number)
-    → IsCut line r → r.ended ≡ false → length so_far.text ≤ network_limit → (length so_far.text + length line ≤ network_limit) ⊎ StartsWith (codes "---\r") line → IsUndivided so_far.given
+pub undivided : (line : List ℕ) (r : ReaderAt) (left rest : Option (List ℕ)) (waiting : List ℕ) (number : ℕ)
+    → (so_far : Coming NetworkLines Anything [] line r left rest None None waiting number)
+    → IsCut line r → r.ended ≡ false → length so_far.text ≤ network_limit → (length so_far.text + length line ≤ network_limit) ⊎ StartsWith (codes "---\r") line
+    → IsUndivided so_far.given
 undivided line r left rest waiting number so_far cut goes fits room =
-    let all : so_far.given ≡ concat so_far.lines ++ line = so_far.all ∙ ap (λ l. concat so_far.lines ++ (line ++ l)) cut.none ∙ ap (λ l. concat so_far.lines ++ l) (append-nil line) in
+    let all : so_far.given ≡ concat so_far.lines ++ line =
+    so_far.all ∙ ap (λ l. concat so_far.lines ++ (line ++ l)) cut.none ∙ ap (λ l. concat so_far.lines ++ l) (append-nil line) in
     let size : length so_far.given ≡ length (concat so_far.lines) + length line = ap length all ∙ length-append (concat so_far.lines) line in
     let same : length so_far.text ≡ length (concat so_far.lines) = ap length so_far.handled.is in
     record {
@@ -234,7 +248,8 @@ undivided line r left rest waiting number so_far cut goes fits room =
     }
 
 -- one more line
-pub goes_on_network : (line text : List ℕ) (r : ReaderAt) (left rest : Option (List ℕ)) (waiting : List ℕ) (number : ℕ) → (so_far : Coming NetworkLines Anything [] line r left rest None None waiting number)
+pub goes_on_network : (line text : List ℕ) (r : ReaderAt) (left rest : Option (List ℕ)) (waiting : List ℕ) (number : ℕ)
+    → (so_far : Coming NetworkLines Anything [] line r left rest None None waiting number)
     → IsNext line r → is_separator line ≡ false → text ≡ waiting ++ line → text ≡ so_far.text ++ line → Networked r left rest text
 unfolding goes_on_with
 goes_on_network line text r left rest waiting number so_far next other is same = record {
@@ -250,29 +265,34 @@ goes_on_network line text r left rest waiting number so_far next other is same =
 abbrev pub NetworkEnded : HowItEnded → List ℕ → ReaderAt → Option (List ℕ) → Option (List ℕ) → Type 0
 NetworkEnded end text s left further = (given : List ℕ) × Consumes left further given × NetworkOutcome end given text s
 
-pub network_ends : (line text : List ℕ) (r s : ReaderAt) (left rest further : Option (List ℕ)) → Networked r left rest text → Takes rest further r.rest r.ended s line
+pub network_ends : (line text : List ℕ) (r s : ReaderAt) (left rest further : Option (List ℕ)) → Networked r left rest text
+    → Takes rest further r.rest r.ended s line
     → IsLast s → line ≡ [] → length text ≤ network_limit → NetworkEnded Whole text s left further
 unfolding comes
 network_ends line text r s left rest further held more last none fits =
     let so_far = comes NetworkLines Anything [] line r s left rest further None None text held.number held.so_far more in
     (so_far.given, so_far.taken, (subst (λ (t : List ℕ). IsDivided so_far.given t s) (sym held.same) (divides_at_end line s left further text held.number so_far last none), fits))
 
-pub network_divides : (line text : List ℕ) (r s : ReaderAt) (left rest further : Option (List ℕ)) → Networked r left rest text → Takes rest further r.rest r.ended s line
+pub network_divides : (line text : List ℕ) (r s : ReaderAt) (left rest further : Option (List ℕ)) → Networked r left rest text
+    → Takes rest further r.rest r.ended s line
     → IsNext line s → is_separator line ≡ true → length text ≤ network_limit → NetworkEnded Whole text s left further
 unfolding comes
 network_divides line text r s left rest further held more next is fits =
     let so_far = comes NetworkLines Anything [] line r s left rest further None None text held.number held.so_far more in
     (so_far.given, so_far.taken, (subst (λ (t : List ℕ). IsDivided so_far.given t s) (sym held.same) (divides line s left further text held.number so_far next is), fits))
 
-pub network_cut_long : (line text after : List ℕ) (r s : ReaderAt) (left rest further : Option (List ℕ)) → Networked r left rest text → Takes rest further r.rest r.ended s line
-    → IsCut line s → (StartsWith (codes "---\r") line → ⊥) → 0 < length line → network_limit < length text + length line → NetworkEnded TooLong after s left further
+pub network_cut_long : (line text after : List ℕ) (r s : ReaderAt) (left rest further : Option (List ℕ)) → Networked r left rest text
+    → Takes rest further r.rest r.ended s line
+    → IsCut line s → (StartsWith (codes "---\r") line → ⊥) → 0 < length line → network_limit < length text + length line
+    → NetworkEnded TooLong after s left further
 unfolding comes
 network_cut_long line text after r s left rest further held more cut never some long =
     let so_far = comes NetworkLines Anything [] line r s left rest further None None text held.number held.so_far more in
     let size : network_limit < length so_far.text + length line = subst (λ (t : List ℕ). network_limit < length t + length line) held.same long in
     (so_far.given, so_far.taken, too_long_cut line s left further text held.number so_far cut never some size)
 
-pub network_line_long : (line text after : List ℕ) (r s : ReaderAt) (left rest further : Option (List ℕ)) → Networked r left rest text → Takes rest further r.rest r.ended s line
+pub network_line_long : (line text after : List ℕ) (r s : ReaderAt) (left rest further : Option (List ℕ)) → Networked r left rest text
+    → Takes rest further r.rest r.ended s line
     → IsNext line s → is_separator line ≡ false → network_limit < length text + length line → NetworkEnded TooLong after s left further
 unfolding comes
 network_line_long line text after r s left rest further held more next other long =
@@ -280,8 +300,10 @@ network_line_long line text after r s left rest further held more next other lon
     let size : network_limit < length so_far.text + length line = subst (λ (t : List ℕ). network_limit < length t + length line) held.same long in
     (so_far.given, so_far.taken, too_long_line line s left further text held.number so_far next other size)
 
-pub network_fails : (line text after : List ℕ) (r s : ReaderAt) (left rest further : Option (List ℕ)) → Networked r left rest text → Takes rest further r.rest r.ended s line
-    → IsCut line s → s.ended ≡ false → length text ≤ network_limit → (length text + length line ≤ network_limit) ⊎ StartsWith (codes "---\r") line → NetworkEnded Failed after s left further
+pub network_fails : (line text after : List ℕ) (r s : ReaderAt) (left rest further : Option (List ℕ)) → Networked r left rest text
+    → Takes rest further r.rest r.ended s line
+    → IsCut line s → s.ended ≡ false → length text ≤ network_limit → (length text + length line ≤ network_limit) ⊎ StartsWith (codes "---\r") line
+    → NetworkEnded Failed after s left further
 unfolding comes
 network_fails line text after r s left rest further held more cut goes fits room =
     let so_far = comes NetworkLines Anything [] line r s left rest further None None text held.number held.so_far more in (
@@ -292,13 +314,15 @@ network_fails line text after r s left rest further held more cut goes fits room
           (subst (λ (t : List ℕ). (length t + length line ≤ network_limit) ⊎ StartsWith (codes "---\r") line) held.same room),
     )
 
-pub network_no_memory : (line text after : List ℕ) (r s : ReaderAt) (left rest further : Option (List ℕ)) → Networked r left rest text → Takes rest further r.rest r.ended s line → NetworkEnded Memory after s left further
+pub network_no_memory : (line text after : List ℕ) (r s : ReaderAt) (left rest further : Option (List ℕ)) → Networked r left rest text
+    → Takes rest further r.rest r.ended s line → NetworkEnded Memory after s left further
 unfolding comes
 network_no_memory line text after r s left rest further held more =
     let so_far = comes NetworkLines Anything [] line r s left rest further None None text held.number held.so_far more in
     (so_far.given, so_far.taken, tt)
 
-pub network_goes_on : (line text after : List ℕ) (r s : ReaderAt) (left rest further : Option (List ℕ)) → Networked r left rest text → Takes rest further r.rest r.ended s line
+pub network_goes_on : (line text after : List ℕ) (r s : ReaderAt) (left rest further : Option (List ℕ)) → Networked r left rest text
+    → Takes rest further r.rest r.ended s line
     → IsNext line s → is_separator line ≡ false → after ≡ text ++ line → Networked s left further after
 unfolding comes
 network_goes_on line text after r s left rest further held more next other same =
@@ -325,7 +349,8 @@ begun_fails left most line after r s rest further ended begun more cut within =
       | inl first ↦ inl (omega (arith, first, within))
       | inr on ↦
           let grown : after ≡ line ++ more.0 =
-          sym (append-nil after) ∙ ap (λ l. after ++ l) (sym cut.none) ∙ more.2 ∙ ap (λ l. (line ++ l) ++ more.0) on.1.none ∙ ap (λ l. l ++ more.0) (append-nil line) in
+          sym (append-nil after) ∙ ap (λ l. after ++ l) (sym cut.none) ∙ more.2 ∙ ap (λ l. (line ++ l) ++ more.0) on.1.none
+          ∙ ap (λ l. l ++ more.0) (append-nil line) in
           let size : length after ≡ length line + length more.0 = ap length grown ∙ length-append line more.0 in
           let none : length more.0 ≡ 0 = omega (arith, on.0, within, size) in
           let same : line ≡ after = sym (append-nil line) ∙ ap (λ l. line ++ l) (sym (nil_from_length more.0 none)) ∙ sym grown in

@@ -179,12 +179,14 @@ bad_network code place h =
     (fourth (codes "bad-network") (decimal code) (code_name code) place [] refl (decimal_word code) (code_low code))
 
 refused : (text line : List ℕ) → IsRefusedBy text line → AllByRecursion TellsNoTrack (lines_of line)
-refused text line (code, place, reads, is) = told_as line (bad_network_line code place.bytes) is (bad_network code place.bytes (place_word text code place reads))
+refused text line (code, place, reads, is) =
+    told_as line (bad_network_line code place.bytes) is (bad_network code place.bytes (place_word text code place reads))
 
 -- What is due
 
 -- behind the counters that are due, where they have such lines alone
-pub last_tells : (status : Status) (s : Setting) (front behind : List (List ℕ)) (counts last : List ℕ) → AllByRecursion TellsNoTrack (lines_of counts) → EndsEvents status s front behind counts last → AllByRecursion TellsNoTrack (lines_of last)
+pub last_tells : (status : Status) (s : Setting) (front behind : List (List ℕ)) (counts last : List ℕ) → AllByRecursion TellsNoTrack (lines_of counts)
+    → EndsEvents status s front behind counts last → AllByRecursion TellsNoTrack (lines_of last)
 last_tells Done s front behind counts last none ends = told_as last counts ends.1 none
 last_tells BadTrace s front behind counts last none ends = told_as last _ ends.3.2 (bad_trace _ ends.3.0)
 last_tells Broken s front behind counts last none ends = told_as last _ ends.3.is (broken _ ends.3.breach)
@@ -196,13 +198,15 @@ last_tells status s front behind counts last none ends = absurd ends
 sound_in : ReadingIsAccepted → (text : List ℕ) (s : Setting) → IsSettingOf text s → IsSoundDatabase s.db
 sound_in accepted text s setting = subst (λ (t : Setting). IsSoundDatabase t.db) (sym setting.is) (accepted text setting.net setting.reads).database
 
-inputs_tell : ReadingIsAccepted → (asked : CommandLine) (input : List ℕ) (status : Status) (octets : List ℕ) → InputsOf asked input status octets → AllByRecursion TellsNoTrack (lines_of octets)
+inputs_tell : ReadingIsAccepted → (asked : CommandLine) (input : List ℕ) (status : Status) (octets : List ℕ) → InputsOf asked input status octets
+    → AllByRecursion TellsNoTrack (lines_of octets)
 inputs_tell accepted asked input status octets inputs =
     let sound = sound_in accepted (network_text input) inputs.setting inputs.asks.2.0 in
     let last = last_tells status inputs.setting inputs.came.front inputs.came.behind [] inputs.last tt inputs.ends in
     told_as octets _ inputs.is (pass_events TellsNoTrack one_word inputs.setting inputs.node inputs.events sound inputs.last last)
 
-lacks_tells : (asked : CommandLine) (input : List ℕ) (status : Status) (octets : List ℕ) → HasPlainUsage asked → LacksNode asked input status octets → AllByRecursion TellsNoTrack (lines_of octets)
+lacks_tells : (asked : CommandLine) (input : List ℕ) (status : Status) (octets : List ℕ) → HasPlainUsage asked → LacksNode asked input status octets
+    → AllByRecursion TellsNoTrack (lines_of octets)
 lacks_tells asked input Usage octets plain lacks = told_as octets asked.usage lacks.1 plain
 lacks_tells asked input status octets plain lacks = absurd lacks
 
@@ -216,13 +220,15 @@ none_tells input status octets none = absurd none
 abbrev IsInputDue : CommandLine → List ℕ → Status → List ℕ → Type 0
 IsInputDue asked input status due = LacksNode asked input status due ⊎ (ReachesNone input status due ⊎ InputsOf asked input status due)
 
-due_tells : ReadingIsAccepted → (asked : CommandLine) (input : List ℕ) (status : Status) (octets : List ℕ) → HasPlainUsage asked → IsInputDue asked input status octets → AllByRecursion TellsNoTrack (lines_of octets)
+due_tells : ReadingIsAccepted → (asked : CommandLine) (input : List ℕ) (status : Status) (octets : List ℕ) → HasPlainUsage asked
+    → IsInputDue asked input status octets → AllByRecursion TellsNoTrack (lines_of octets)
 due_tells accepted asked input status octets plain (inl lacks) = lacks_tells asked input status octets plain lacks
 due_tells accepted asked input status octets plain (inr (inl none)) = none_tells input status octets none
 due_tells accepted asked input status octets plain (inr (inr inputs)) = inputs_tell accepted asked input status octets inputs
 
 -- a line that is cut begins as the whole one
-pub longer : (node tick rest more : List ℕ) → (node ++ 32 ∷ (tick ++ 32 ∷ (codes "track" ++ rest))) ++ more ≡ node ++ 32 ∷ (tick ++ 32 ∷ (codes "track" ++ (rest ++ more)))
+pub longer : (node tick rest more : List ℕ)
+    → (node ++ 32 ∷ (tick ++ 32 ∷ (codes "track" ++ rest))) ++ more ≡ node ++ 32 ∷ (tick ++ 32 ∷ (codes "track" ++ (rest ++ more)))
 longer node tick rest more =
     append_assoc node (32 ∷ (tick ++ 32 ∷ (codes "track" ++ rest))) more
     ∙ ap (λ (l : List ℕ). node ++ 32 ∷ l) (append_assoc tick (32 ∷ (codes "track" ++ rest)) more)

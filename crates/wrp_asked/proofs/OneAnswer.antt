@@ -72,12 +72,14 @@ Cases asked input calls s o =
     ⊎ (IsNoNode asked (network_text input) s o
     ⊎ RecordsCase asked input calls s o)))
 
-due_cases : (asked : CommandLine) (input : List ℕ) (calls : List LinkCall) (s : Status) (o : List ℕ) → RecordsDue asked input calls s o → Cases asked input calls s o ⊎ AloneAnswer asked input calls s o
+due_cases : (asked : CommandLine) (input : List ℕ) (calls : List LinkCall) (s : Status) (o : List ℕ) → RecordsDue asked input calls s o
+    → Cases asked input calls s o ⊎ AloneAnswer asked input calls s o
 due_cases asked input calls s o (inl task) = inl (inr (inr (inr (inr (inl (task.0, task.1, task.2))))))
 due_cases asked input calls s o (inr (inl alone)) = inr alone
 due_cases asked input calls s o (inr (inr looped)) = inl (inr (inr (inr (inr (inr looped)))))
 
-cases_of : (asked : CommandLine) (input : List ℕ) (calls : List LinkCall) (s : Status) (o : List ℕ) → Answer asked input calls s o → Cases asked input calls s o ⊎ AloneAnswer asked input calls s o
+cases_of : (asked : CommandLine) (input : List ℕ) (calls : List LinkCall) (s : Status) (o : List ℕ) → Answer asked input calls s o
+    → Cases asked input calls s o ⊎ AloneAnswer asked input calls s o
 cases_of asked input calls Usage o p = inl (elim p.0 [ inl none ↦ inl (refl, none, p.1) | inr none ↦ inr (inr (inr (inl (refl, none, p.1)))) ])
 cases_of asked input calls BadNetwork o p = elim p [ inl bad ↦ inl (inr (inr (inl (refl, bad.0, bad.1, bad.2)))) | inr alone ↦ inr alone ]
 cases_of asked input calls TooLarge o p = elim p [ inl long ↦ inl (inr (inl (refl, long.0, long.1, long.2))) | inr due ↦ due_cases asked input calls TooLarge o due ]
@@ -89,7 +91,8 @@ record TaskWith (asked : CommandLine) (input : List ℕ) (calls : List LinkCall)
   asks : AsksFor asked (network_text input) task
   due : RecordsAnswer (meaning_with task calls) (behind_separator (lines_of input)) s o
 
-task_of : (asked : CommandLine) (input : List ℕ) (calls : List LinkCall) (s : Status) (o : List ℕ) → RecordsCase asked input calls s o → TaskWith asked input calls s o
+task_of : (asked : CommandLine) (input : List ℕ) (calls : List LinkCall) (s : Status) (o : List ℕ) → RecordsCase asked input calls s o
+    → TaskWith asked input calls s o
 task_of asked input calls s o (inl p) = record { task = p.0; asks = p.1; due = (task_facts p.0).linked calls (behind_separator (lines_of input)) s o p.2 }
 task_of asked input calls s o (inr p) = record { task = Loop p.0 p.1; asks = p.2; due = loop_records p.0 p.1 calls (behind_separator (lines_of input)) s o p.3 }
 
@@ -97,34 +100,41 @@ task_of asked input calls s o (inr p) = record { task = Loop p.0 p.1; asks = p.2
 is_networked : (asked : CommandLine) (input : List ℕ) (calls : List LinkCall) (s : Status) (o : List ℕ) → RecordsCase asked input calls s o → IsNetworked asked
 is_networked asked input calls s o p = let x = task_of asked input calls s o p in networked_of asked (network_text input) x.task x.asks
 
-accepted_case : (asked : CommandLine) (input : List ℕ) (calls : List LinkCall) (s : Status) (o : List ℕ) → RecordsCase asked input calls s o → IsAccepted (network_text input)
+accepted_case : (asked : CommandLine) (input : List ℕ) (calls : List LinkCall) (s : Status) (o : List ℕ) → RecordsCase asked input calls s o
+    → IsAccepted (network_text input)
 accepted_case asked input calls s o p = let x = task_of asked input calls s o p in (task_facts x.task).accepted (network_text input) x.asks.2
 
-within_case : (asked : CommandLine) (input : List ℕ) (calls : List LinkCall) (s : Status) (o : List ℕ) → RecordsCase asked input calls s o → length (network_text input) ≤ network_limit
+within_case : (asked : CommandLine) (input : List ℕ) (calls : List LinkCall) (s : Status) (o : List ℕ) → RecordsCase asked input calls s o
+    → length (network_text input) ≤ network_limit
 within_case asked input calls s o p = (task_of asked input calls s o p).asks.0
 
-missing_case : (asked : CommandLine) (input : List ℕ) (calls : List LinkCall) (s : Status) (o : List ℕ) → AsksNone asked (network_text input) → RecordsCase asked input calls s o → ⊥
+missing_case : (asked : CommandLine) (input : List ℕ) (calls : List LinkCall) (s : Status) (o : List ℕ) → AsksNone asked (network_text input)
+    → RecordsCase asked input calls s o → ⊥
 missing_case asked input calls s o none p =
     let x = task_of asked input calls s o p in
     let same : (task_row x.task).command ≡ none.asks.0 = one_command asked (task_row x.task).command none.asks.0 x.asks.1 none.asks.1 in
     (task_facts x.task).named (network_text input) none.net none.name none.reads x.asks.2 (ap node_of same ∙ none.asks.2) none.none
 
 -- two answers that came to the records
-one_records : OneLaws → (asked : CommandLine) (input : List ℕ) (calls : List LinkCall) (s t : Status) (o u : List ℕ) → RecordsCase asked input calls s o → RecordsCase asked input calls t u → AreOne s t o u
+one_records : OneLaws → (asked : CommandLine) (input : List ℕ) (calls : List LinkCall) (s t : Status) (o u : List ℕ) → RecordsCase asked input calls s o
+    → RecordsCase asked input calls t u → AreOne s t o u
 one_records laws asked input calls s t o u p q =
     let lines : List (List ℕ) = behind_separator (lines_of input) in
     let x = task_of asked input calls s o p in
     let y = task_of asked input calls t u q in
-    let command : (task_row y.task).command ≡ (task_row x.task).command = one_command asked (task_row y.task).command (task_row x.task).command y.asks.1 x.asks.1 in
+    let command : (task_row y.task).command ≡ (task_row x.task).command =
+    one_command asked (task_row y.task).command (task_row x.task).command y.asks.1 x.asks.1 in
     let same : bare_task y.task ≡ bare_task x.task = (task_facts x.task).same (network_text input) y.task command x.asks.2 y.asks.2 in
-    one_records_answer (meaning_with (bare_task x.task) calls) ((task_facts x.task).exact laws calls) lines s t o u ((task_facts x.task).bare calls lines s o x.due)
+    one_records_answer (meaning_with (bare_task x.task) calls) ((task_facts x.task).exact laws calls) lines s t o u
+    ((task_facts x.task).bare calls lines s o x.due)
     (subst (λ (task : Task). RecordsAnswer (meaning_with task calls) lines t u) same ((task_facts y.task).bare calls lines t u y.due))
 
 of_node : (asked : CommandLine) (name : List ℕ) → IsOfNode asked name → IsNetworked asked
 of_node asked name (command, on, needs) = (command, on)
 
 -- two answers, of cases in order
-one_of_cases : OneLaws → (asked : CommandLine) (input : List ℕ) (calls : List LinkCall) (s t : Status) (o u : List ℕ) → Cases asked input calls s o → Cases asked input calls t u → AreOne s t o u
+one_of_cases : OneLaws → (asked : CommandLine) (input : List ℕ) (calls : List LinkCall) (s t : Status) (o u : List ℕ) → Cases asked input calls s o
+    → Cases asked input calls t u → AreOne s t o u
 one_of_cases laws asked input calls s t o u (inl p) (inl q) = (p.0 ∙ sym q.0, p.2 ∙ sym q.2)
 one_of_cases laws asked input calls s t o u (inl p) (inr (inl q)) = absurd (p.1 (networked_command asked q.1))
 one_of_cases laws asked input calls s t o u (inl p) (inr (inr (inl q))) = absurd (p.1 (networked_command asked q.1))
@@ -137,8 +147,10 @@ one_of_cases laws asked input calls s t o u (inr (inl p)) (inr (inr (inr (inr q)
     let within : length (network_text input) ≤ network_limit = within_case asked input calls t u q in
     absurd (omega (arith, p.2, within))
 one_of_cases laws asked input calls s t o u (inr (inr (inl p))) (inr (inr (inl q))) = (p.0 ∙ sym q.0, one_refused (network_text input) o u p.3 q.3)
-one_of_cases laws asked input calls s t o u (inr (inr (inl p))) (inr (inr (inr (inl q)))) = absurd (not_accepted (network_text input) o p.3 (q.1.net, q.1.reads))
-one_of_cases laws asked input calls s t o u (inr (inr (inl p))) (inr (inr (inr (inr q)))) = absurd (not_accepted (network_text input) o p.3 (accepted_case asked input calls t u q))
+one_of_cases laws asked input calls s t o u (inr (inr (inl p))) (inr (inr (inr (inl q)))) =
+    absurd (not_accepted (network_text input) o p.3 (q.1.net, q.1.reads))
+one_of_cases laws asked input calls s t o u (inr (inr (inl p))) (inr (inr (inr (inr q)))) =
+    absurd (not_accepted (network_text input) o p.3 (accepted_case asked input calls t u q))
 one_of_cases laws asked input calls s t o u (inr (inr (inr (inl p)))) (inr (inr (inr (inl q)))) = (p.0 ∙ sym q.0, p.2 ∙ sym q.2)
 one_of_cases laws asked input calls s t o u (inr (inr (inr (inl p)))) (inr (inr (inr (inr q)))) =
     absurd (missing_case asked input calls t u p.1 q)
@@ -153,18 +165,22 @@ one_of_cases laws asked input calls s t o u (inr (inr (inr (inl p)))) (inr (inl 
 one_of_cases laws asked input calls s t o u (inr (inr (inr (inr p)))) (inr (inl q)) =
     let within : length (network_text input) ≤ network_limit = within_case asked input calls s o p in
     absurd (omega (arith, q.2, within))
-one_of_cases laws asked input calls s t o u (inr (inr (inr (inl p)))) (inr (inr (inl q))) = absurd (not_accepted (network_text input) u q.3 (p.1.net, p.1.reads))
-one_of_cases laws asked input calls s t o u (inr (inr (inr (inr p)))) (inr (inr (inl q))) = absurd (not_accepted (network_text input) u q.3 (accepted_case asked input calls s o p))
+one_of_cases laws asked input calls s t o u (inr (inr (inr (inl p)))) (inr (inr (inl q))) =
+    absurd (not_accepted (network_text input) u q.3 (p.1.net, p.1.reads))
+one_of_cases laws asked input calls s t o u (inr (inr (inr (inr p)))) (inr (inr (inl q))) =
+    absurd (not_accepted (network_text input) u q.3 (accepted_case asked input calls s o p))
 one_of_cases laws asked input calls s t o u (inr (inr (inr (inr p)))) (inr (inr (inr (inl q)))) =
     absurd (missing_case asked input calls s o q.1 p)
 
 -- of a command that stands alone
-one_alone_answer : (asked : CommandLine) (input : List ℕ) (calls : List LinkCall) (s t : Status) (o u : List ℕ) → AloneAnswer asked input calls s o → AloneAnswer asked input calls t u → AreOne s t o u
+one_alone_answer : (asked : CommandLine) (input : List ℕ) (calls : List LinkCall) (s t : Status) (o u : List ℕ) → AloneAnswer asked input calls s o
+    → AloneAnswer asked input calls t u → AreOne s t o u
 one_alone_answer asked input calls s t o u p q =
     (facts_of p.0).one input calls s t o u p.2 (subst (λ (a : Alone). (alone_meaning a).answers input calls t u) (one_alone asked q.0 p.0 q.1 p.1) q.2)
 
 -- words on a network, and none, are no command that stands alone
-not_both : (asked : CommandLine) (input : List ℕ) (calls : List LinkCall) (s : Status) (o : List ℕ) (alone : Alone) → Cases asked input calls s o → IsAlone asked alone → ⊥
+not_both : (asked : CommandLine) (input : List ℕ) (calls : List LinkCall) (s : Status) (o : List ℕ) (alone : Alone) → Cases asked input calls s o
+    → IsAlone asked alone → ⊥
 not_both asked input calls s o alone (inl p) is = p.1 (alone_command asked alone is)
 not_both asked input calls s o alone (inr (inl p)) is = alone_unnetworked asked alone is p.1
 not_both asked input calls s o alone (inr (inr (inl p))) is = alone_unnetworked asked alone is p.1
@@ -172,7 +188,8 @@ not_both asked input calls s o alone (inr (inr (inr (inl p)))) is = alone_unnetw
 not_both asked input calls s o alone (inr (inr (inr (inr p)))) is = alone_unnetworked asked alone is (is_networked asked input calls s o p)
 
 -- for words, an input and calls one status and one text are due
-pub one_answer : OneLaws → (asked : CommandLine) (input : List ℕ) (calls : List LinkCall) (s t : Status) (o u : List ℕ) → Answer asked input calls s o → Answer asked input calls t u → AreOne s t o u
+pub one_answer : OneLaws → (asked : CommandLine) (input : List ℕ) (calls : List LinkCall) (s t : Status) (o u : List ℕ) → Answer asked input calls s o
+    → Answer asked input calls t u → AreOne s t o u
 one_answer laws asked input calls s t o u p q =
     elim (cases_of asked input calls s o p) [
       | inl a ↦ elim (cases_of asked input calls t u q) [
@@ -187,7 +204,8 @@ one_answer laws asked input calls s t o u p q =
 
 -- What is due for no call is due for any, but of a command that stands alone
 
-uncalled_case : (asked : CommandLine) (input : List ℕ) (calls : List LinkCall) (s : Status) (o : List ℕ) → Cases asked input [] s o → Cases asked input calls s o
+uncalled_case : (asked : CommandLine) (input : List ℕ) (calls : List LinkCall) (s : Status) (o : List ℕ) → Cases asked input [] s o
+    → Cases asked input calls s o
 uncalled_case asked input calls s o (inl p) = inl p
 uncalled_case asked input calls s o (inr (inl p)) = inr (inl p)
 uncalled_case asked input calls s o (inr (inr (inl p))) = inr (inr (inl p))
@@ -197,7 +215,8 @@ uncalled_case asked input calls s o (inr (inr (inr (inr (inr p))))) =
     absurd (told_calls p.0 p.1 (behind_separator (lines_of input)) s o p.3)
 
 -- one status and one text are due for some calls, and for none
-one_uncalled : OneLaws → (asked : CommandLine) (input : List ℕ) (calls : List LinkCall) (s t : Status) (o u : List ℕ) → Answer asked input calls s o → Answer asked input [] t u → AreOne s t o u
+one_uncalled : OneLaws → (asked : CommandLine) (input : List ℕ) (calls : List LinkCall) (s t : Status) (o u : List ℕ) → Answer asked input calls s o
+    → Answer asked input [] t u → AreOne s t o u
 one_uncalled laws asked input calls s t o u p q =
     elim (cases_of asked input calls s o p) [
       | inl a ↦ elim (cases_of asked input [] t u q) [
@@ -226,7 +245,8 @@ given_by : (run : Run) (status : Status) (input octets : List ℕ) (calls : List
 given_by run status input octets calls told wrote called has =
     (octets, calls, wrote, called, subst (λ (i : Option (List ℕ)). IfSome i (λ input. Answer run.asked input calls status octets)) told has)
 
-pub given_of : (run : Run) (status : Status) (input : List ℕ) → run.source.before ≡ Some input → Ends run status → is_answer status ≡ true → Given run status input
+pub given_of : (run : Run) (status : Status) (input : List ℕ) → run.source.before ≡ Some input → Ends run status → is_answer status ≡ true
+    → Given run status input
 given_of run Done input told ends is = given_by run Done input ends.0.1 ends.0.2 told ends.0.3 ends.0.4 ends.0.5
 given_of run Usage input told ends is = (
   run.asked.usage,
@@ -266,7 +286,8 @@ pub told_one : OneLaws → (run : Run) (answered status : Status) (octets : List
     → IsToldOf run.link calls → DueIs run answered calls status octets
 told_one laws run answered status octets calls ends is tells = go run.source.before refl
   where
-    go : (told : Option (List ℕ)) → run.source.before ≡ told → IfSome told (λ input. Answer run.asked input calls status octets → (answered ≡ status) × Appends run.sink.before run.sink.now octets)
+    go : (told : Option (List ℕ)) → run.source.before ≡ told
+        → IfSome told (λ input. Answer run.asked input calls status octets → (answered ≡ status) × Appends run.sink.before run.sink.now octets)
     go None told = tt
     go (Some input) told =
         λ other.
@@ -278,7 +299,8 @@ told_one laws run answered status octets calls ends is tells = go run.source.bef
         (same.0, subst (λ (o : List ℕ). Appends run.sink.before run.sink.now o) same.1 given.2)
 
 -- without a fault and with memory a run ends with an answer
-pub ends_answered : (run : Run) (status : Status) → Ends run status → (status ≡ OutOfMemory → ⊥) → (Failed run.source → ⊥) → (Failed run.sink → ⊥) → (Failed run.link → ⊥) → is_answer status ≡ true
+pub ends_answered : (run : Run) (status : Status) → Ends run status → (status ≡ OutOfMemory → ⊥) → (Failed run.source → ⊥) → (Failed run.sink → ⊥)
+    → (Failed run.link → ⊥) → is_answer status ≡ true
 ends_answered run ReadFault ends memory reads writes links = absurd (reads ends.0)
 ends_answered run WriteFault ends memory reads writes links = absurd (writes ends.0)
 ends_answered run OutOfMemory ends memory reads writes links = absurd (memory refl)

@@ -32,7 +32,8 @@ use Rattle.wrp_trace.specs.LineSetting.{has_port, line_setting_in}
 -- What is due by the records, and by the calls
 
 -- what is due by the records alone is so whatever calls are told
-pub scene_records : (s : Setting) (seed : ℕ) (calls : List LinkCall) (lines : List (List ℕ)) (status : Status) (octets : List ℕ) → RecordsAnswer (scenario_of s) lines status octets → RecordsAnswer (loop_of s seed calls) lines status octets
+pub scene_records : (s : Setting) (seed : ℕ) (calls : List LinkCall) (lines : List (List ℕ)) (status : Status) (octets : List ℕ)
+    → RecordsAnswer (scenario_of s) lines status octets → RecordsAnswer (loop_of s seed calls) lines status octets
 scene_records s seed calls = due_so (scenario_of s) (loop_of s seed calls) (record {
   accepts = λ lines text h. h;
   refuses = λ lines line last refusal h. h;
@@ -40,7 +41,8 @@ scene_records s seed calls = due_so (scenario_of s) (loop_of s seed calls) (reco
   breaks_off = λ lines status last h. absurd (never_barred lines status last h);
 })
 
-pub loop_records : (s : Setting) (seed : ℕ) (calls : List LinkCall) (lines : List (List ℕ)) (status : Status) (octets : List ℕ) → LoopDue s seed lines calls status octets → RecordsAnswer (loop_of s seed calls) lines status octets
+pub loop_records : (s : Setting) (seed : ℕ) (calls : List LinkCall) (lines : List (List ℕ)) (status : Status) (octets : List ℕ)
+    → LoopDue s seed lines calls status octets → RecordsAnswer (loop_of s seed calls) lines status octets
 loop_records s seed calls lines Done octets h = h
 loop_records s seed calls lines TooLarge octets h = inr h
 loop_records s seed calls lines _ octets h = absurd h
@@ -59,7 +61,8 @@ told_calls s seed lines _ octets h = h
 -- counters that are the same have the same lines
 counts_one : (s : Setting) (v w : WorldAt) → ((n : ℕ) → (w.node n).counters ≡ (v.node n).counters) → all_counts s v ≡ all_counts s w
 counts_one s v w same =
-    sym (λ i. flat_map (λ n. flat_map (λ port. if has_port (line_setting_in s n) port then port_counts (name_at s.cfg n) port (same n i port) else []) port_numbers) (nodes_of s))
+    sym
+    (λ i. flat_map (λ n. flat_map (λ port. if has_port (line_setting_in s n) port then port_counts (name_at s.cfg n) port (same n i port) else []) port_numbers) (nodes_of s))
 
 -- two loops that the same lines and calls tell
 record Both (s : Setting) (first second : Ending) (a b : LoopAt) : Type 0 where
@@ -67,11 +70,13 @@ record Both (s : Setting) (first second : Ending) (a b : LoopAt) : Type 0 where
   text : loop_text s (events_at a) ≡ loop_text s (events_at b)
   closing : closing_lines s a ≡ closing_lines s b
 
-both_of : ToldLast → (s : Setting) (seed : ℕ) (calls : List LinkCall) (lines : List (List ℕ)) (first second : Ending) (p : LoopEnded s seed lines calls first) (q : LoopEnded s seed lines calls second) →
+both_of : ToldLast
+    → (s : Setting) (seed : ℕ) (calls : List LinkCall) (lines : List (List ℕ)) (first second : Ending) (p : LoopEnded s seed lines calls first) (q : LoopEnded s seed lines calls second) →
     Both s first second (place p.last) (place q.last)
 both_of last s seed calls lines first second p q =
     let scene : q.scene ≡ p.scene = scenes_one s.cfg (new_scene s.cfg) lines q.scene p.scene q.said p.said in
-    let own : EndsAs (plan_of s p.scene seed) calls second q.last = subst (λ (scene : SceneAt). EndsAs (plan_of s scene seed) calls second q.last) scene q.ends in
+    let own : EndsAs (plan_of s p.scene seed) calls second q.last =
+    subst (λ (scene : SceneAt). EndsAs (plan_of s scene seed) calls second q.last) scene q.ends in
     let one = one_loop last (laws_in s) (plan_of s p.scene seed) calls p.last q.last first second p.ends own p.answered q.answered in
     record {
       ending = one.0;
@@ -86,7 +91,8 @@ over_large e = cc
 large_over : Large ≡ Over → ⊥
 large_over e = cc
 
-ends_one : ToldLast → (s : Setting) (seed : ℕ) (calls : List LinkCall) (lines : List (List ℕ)) (a b : Status) (t u : List ℕ) → EndsWith (loop_of s seed calls) lines a t → EndsWith (loop_of s seed calls) lines b u → (a ≡ b) × (t ≡ u)
+ends_one : ToldLast → (s : Setting) (seed : ℕ) (calls : List LinkCall) (lines : List (List ℕ)) (a b : Status) (t u : List ℕ)
+    → EndsWith (loop_of s seed calls) lines a t → EndsWith (loop_of s seed calls) lines b u → (a ≡ b) × (t ≡ u)
 ends_one last s seed calls lines Done Done t u p q =
     let both = both_of last s seed calls lines Over Over p.0 q.0 in
     (refl, p.1 ∙ ap₂ (λ (text closing : List ℕ). text ++ closing) both.text both.closing ∙ sym q.1)

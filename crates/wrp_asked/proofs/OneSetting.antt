@@ -21,13 +21,15 @@ pub accepted_setting : (text : List ℕ) (s : Setting) → IsSettingOf text s �
 accepted_setting text s setting = (setting.net, setting.reads)
 
 -- the node of a name in it
-pub one_node : (text name : List ℕ) (a b : Setting) (n m : ℕ) → IsSettingOf text a → IsSettingOf text b → node_named a.cfg name ≡ Some n → node_named b.cfg name ≡ Some m → n ≡ m
+pub one_node : (text name : List ℕ) (a b : Setting) (n m : ℕ) → IsSettingOf text a → IsSettingOf text b → node_named a.cfg name ≡ Some n
+    → node_named b.cfg name ≡ Some m → n ≡ m
 one_node text name a b n m p q here there =
     let same : bare_setting a ≡ bare_setting b = one_setting text a b p q in
     same_Some n m (sym here ∙ sym (named_bare a.cfg name) ∙ ap (λ (s : Setting). node_named s.cfg name) same ∙ named_bare b.cfg name ∙ there)
 
 -- which is not missing
-pub node_there : (text name : List ℕ) (net : Network) (s : Setting) (n : ℕ) → IsReadingOf text (Ok net) → IsSettingOf text s → node_named s.cfg name ≡ Some n → node_named net.cfg name ≡ None → ⊥
+pub node_there : (text name : List ℕ) (net : Network) (s : Setting) (n : ℕ) → IsReadingOf text (Ok net) → IsSettingOf text s → node_named s.cfg name ≡ Some n
+    → node_named net.cfg name ≡ None → ⊥
 node_there text name net s n reads setting named none =
     let nets = one_reading text (Ok net) (Ok setting.net) reads setting.reads in
     let both : None ≡ Some n =

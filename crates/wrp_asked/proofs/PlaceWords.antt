@@ -79,7 +79,8 @@ among f n [] h = tt
 among f n (d ∷ ds) h = one_of (f n d) (first_among f (n + 1) ds) (h n d) (among f (n + 1) ds h)
 
 -- in each of some tables, by how many stand before it
-in_tables : (f : ℕ → Members → Option PlaceAt) (ds : List Data) → ((m : ℕ) (table : Members) → IsWordly (f m table)) → IsWordly (first_among (λ m d. on_table (f m) d) 0 ds)
+in_tables : (f : ℕ → Members → Option PlaceAt) (ds : List Data) → ((m : ℕ) (table : Members) → IsWordly (f m table))
+    → IsWordly (first_among (λ m d. on_table (f m) d) 0 ds)
 in_tables f ds h = among (λ m d. on_table (f m) d) 0 ds (λ m d. on_some (f m) (as_table d) (h m))
 
 -- Keys
@@ -92,11 +93,13 @@ abbrev IsNameWord : Option (List ℕ) → Type 0
 IsNameWord None = Unit {0}
 IsNameWord (Some name) = IsWord name
 
-found_by : {X : Type 0} (name : X → List ℕ) (b : Bool) (x : X) (rest : Option X) → IsWord (name x) → IsNameWord (option_map name rest) → IsNameWord (option_map name (if b then Some x else rest))
+found_by : {X : Type 0} (name : X → List ℕ) (b : Bool) (x : X) (rest : Option X) → IsWord (name x) → IsNameWord (option_map name rest)
+    → IsNameWord (option_map name (if b then Some x else rest))
 found_by name true x rest h k = h
 found_by name false x rest h k = k
 
-found_word : {X : Type 0} (name : X → List ℕ) (test : X → Bool) (xs : List X) → list_all (λ (x : X). list_all is_word_octet (name x)) xs ≡ true → IsNameWord (option_map name (find test xs))
+found_word : {X : Type 0} (name : X → List ℕ) (test : X → Bool) (xs : List X) → list_all (λ (x : X). list_all is_word_octet (name x)) xs ≡ true
+    → IsNameWord (option_map name (find test xs))
 found_word name test [] h = tt
 found_word name test (x ∷ xs) h =
     let both = and_parts (list_all is_word_octet (name x)) (list_all (λ y. list_all is_word_octet (name y)) xs) h in
@@ -125,7 +128,8 @@ of_name : (code : Code) (at : At) (earlier : List Data) (table : Members) → Is
 of_name co.UnknownKey at earlier table = tt
 of_name co.Missing at earlier table = tt
 of_name co.Range at earlier table = tt
-of_name co.Twice at earlier table = either (list_any (has_name_of table) earlier) (Some (record { at = at; key = Some (codes "name") })) (key_word at (codes "name") refl)
+of_name co.Twice at earlier table =
+    either (list_any (has_name_of table) earlier) (Some (record { at = at; key = Some (codes "name") })) (key_word at (codes "name") refl)
 
 -- Modules and fibres
 
@@ -150,7 +154,8 @@ module_rows Two = refl
 
 in_module : (version : Version) (code : Code) (modules : List Data) (n : ℕ) (table : Members) → IsWordly (place_in_module version code modules n table)
 in_module version code modules n table =
-    one_of (place_in_table code (tables.Module (n + 1)) (module_keys version) table) _ (in_rows code (tables.Module (n + 1)) (module_keys version) table (module_rows version))
+    one_of (place_in_table code (tables.Module (n + 1)) (module_keys version) table) _
+    (in_rows code (tables.Module (n + 1)) (module_keys version) table (module_rows version))
     (one_of (place_of_name code (tables.Module (n + 1)) (take n modules) table) (place_in_pairs version code (n + 1) (tables_at (codes "pair") table))
     (of_name code (tables.Module (n + 1)) (take n modules) table) (in_pairs version code (n + 1) (tables_at (codes "pair") table)))
 
@@ -184,7 +189,8 @@ of_identity co.UnknownKey at earlier node = tt
 of_identity co.Missing at earlier node = tt
 of_identity co.Range at earlier node = tt
 of_identity co.Twice at earlier node =
-    either (list_any (has_text_of (codes "identity") node) earlier) (Some (record { at = at; key = Some (codes "identity") })) (key_word at (codes "identity") refl)
+    either (list_any (has_text_of (codes "identity") node) earlier) (Some (record { at = at; key = Some (codes "identity") }))
+    (key_word at (codes "identity") refl)
 
 in_node : (clock : Clock) (code : Code) (nodes : List Data) (n : ℕ) (node : Members) → IsWordly (place_in_node clock code nodes n node)
 in_node clock code nodes n node =
@@ -206,7 +212,8 @@ of_port co.Twice at earlier link = port_by at (repeats_upper earlier link) (repe
 
 in_link_rows : (code : Code) (at : At) (file : Context) (link : Members) → IsWordly (place_in_link_table code at file link)
 in_link_rows code at file link =
-    one_of (place_of_others code at (map (λ (k : LinkKey). k.key) (link_keys link)) link) _ (of_others code at (map (λ (k : LinkKey). k.key) (link_keys link)) link)
+    one_of (place_of_others code at (map (λ (k : LinkKey). k.key) (link_keys link)) link) _
+    (of_others code at (map (λ (k : LinkKey). k.key) (link_keys link)) link)
     (at_key at (option_map (λ (k : LinkKey). k.key.name) (find (has_link_fault code file link) (link_keys link)))
     (found_word (λ (k : LinkKey). k.key.name) (has_link_fault code file link) (link_keys link) refl))
 

@@ -29,7 +29,8 @@ abbrev pub IsRunDue : CommandLine → List ℕ → List LinkCall → Status → 
 IsRunDue asked input calls status due = ReachesNone input status due ⊎ (LacksScenario asked input status due ⊎ RunOf asked input status due)
 
 -- where a simulation is asked for, what holds of every task holds if it does of a simulation
-only_simulation : (asked : CommandLine) (text : List ℕ) (seed : ℕ) (P : Task → Type 0) (Q : Type 0) → IsSimulation asked seed → ((s : Setting) (own : ℕ) → AsksFor asked text (Simulate s own) → P (Simulate s own) → Q) →
+only_simulation : (asked : CommandLine) (text : List ℕ) (seed : ℕ) (P : Task → Type 0) (Q : Type 0) → IsSimulation asked seed
+    → ((s : Setting) (own : ℕ) → AsksFor asked text (Simulate s own) → P (Simulate s own) → Q) →
     (task : Task) → AsksFor asked text task → P task → Q
 only_simulation asked text seed P Q simulates f (Simulate s own) asks h = f s own asks h
 only_simulation asked text seed P Q simulates f task asks h = let bad : requests.Simulate seed ≡ (task_row task).command = one_command asked (requests.Simulate seed) (task_row task).command simulates asks.1 in absurd (cc)
@@ -47,7 +48,8 @@ abbrev made_of : (asked : CommandLine) (input : List ℕ) (s : Setting) (seed : 
     (run : Simulates s seed (map content_of (behind_separator (lines_of input)))) → Made asked input s run.events
 made_of asked input s seed asks run = record { seed = seed; asks = asks; scene = run.scene; said = run.said; at = run.at; simulated = run.simulated }
 
-wholly : (asked : CommandLine) (input octets : List ℕ) (s : Setting) (seed : ℕ) → AsksFor asked (network_text input) (Simulate s seed) → IsWholly (simulation_of s seed) (behind_separator (lines_of input)) octets → RunOf asked input Done octets
+wholly : (asked : CommandLine) (input octets : List ℕ) (s : Setting) (seed : ℕ) → AsksFor asked (network_text input) (Simulate s seed)
+    → IsWholly (simulation_of s seed) (behind_separator (lines_of input)) octets → RunOf asked input Done octets
 wholly asked input octets s seed asks h = record {
   setting = s;
   events = h.closed.0.events;
@@ -69,10 +71,13 @@ refused asked input octets s seed asks h = record {
   divided = h.divided;
   scene = h.handled.accepted.0;
   said = h.handled.accepted.1;
-  is = subst (SimRefuses s (map content_of h.before) (content_of h.line) refusals.BadTrace) (sym (only_last h.written h.last octets h.handled.accepted.2 h.is)) h.refused;
+  is =
+      subst (SimRefuses s (map content_of h.before) (content_of h.line) refusals.BadTrace)
+      (sym (only_last h.written h.last octets h.handled.accepted.2 h.is)) h.refused;
 }
 
-large : (asked : CommandLine) (input octets : List ℕ) (s : Setting) (seed : ℕ) → AsksFor asked (network_text input) (Simulate s seed) → IsLarge (simulation_of s seed) (behind_separator (lines_of input)) octets →
+large : (asked : CommandLine) (input octets : List ℕ) (s : Setting) (seed : ℕ) → AsksFor asked (network_text input) (Simulate s seed)
+    → IsLarge (simulation_of s seed) (behind_separator (lines_of input)) octets →
     LacksScenario asked input TooLarge octets
 large asked input octets s seed asks h = record {
   setting = s;
@@ -109,12 +114,14 @@ first_events asked input octets s seed asks h = record {
   is = only_last h.written h.last octets h.handled.accepted.2 h.is ∙ h.broken.1 ∙ sym (append-nil (sim_lines s h.broken.0.events));
 }
 
-stand_first : (asked : CommandLine) (input octets : List ℕ) (s : Setting) (seed : ℕ) → AsksFor asked (network_text input) (Simulate s seed) → StandsFirst (simulation_of s seed) (behind_separator (lines_of input)) octets →
+stand_first : (asked : CommandLine) (input octets : List ℕ) (s : Setting) (seed : ℕ) → AsksFor asked (network_text input) (Simulate s seed)
+    → StandsFirst (simulation_of s seed) (behind_separator (lines_of input)) octets →
     IsRunDue asked input [] OutOfMemory octets
 stand_first asked input octets s seed asks (inl first) = inl first.handled.accepted.2
 stand_first asked input octets s seed asks (inr off) = inr (inr (first_events asked input octets s seed asks off))
 
-records_due : (asked : CommandLine) (input : List ℕ) (status : Status) (octets : List ℕ) (s : Setting) (seed : ℕ) → AsksFor asked (network_text input) (Simulate s seed) →
+records_due : (asked : CommandLine) (input : List ℕ) (status : Status) (octets : List ℕ) (s : Setting) (seed : ℕ)
+    → AsksFor asked (network_text input) (Simulate s seed) →
     RecordsAnswer (simulation_of s seed) (behind_separator (lines_of input)) status octets → IsRunDue asked input [] status octets
 records_due asked input Done octets s seed asks h = inr (inr (wholly asked input octets s seed asks h))
 records_due asked input BadTrace octets s seed asks h = inr (inl (refused asked input octets s seed asks h))
@@ -124,20 +131,25 @@ records_due asked input TooLarge octets s seed asks (inr off) = inr (inr (overru
 records_due asked input BadCalib octets s seed asks h = absurd h.broken
 records_due asked input _ octets s seed asks h = absurd h
 
-task_due : (asked : CommandLine) (seed : ℕ) (input : List ℕ) (status : Status) (octets : List ℕ) (task : Task) → IsSimulation asked seed → AsksFor asked (network_text input) task →
+task_due : (asked : CommandLine) (seed : ℕ) (input : List ℕ) (status : Status) (octets : List ℕ) (task : Task) → IsSimulation asked seed
+    → AsksFor asked (network_text input) task →
     RecordsAnswer (meaning_at task) (behind_separator (lines_of input)) status octets → IsRunDue asked input [] status octets
 task_due asked seed input status octets task simulates asks due =
-    only_simulation asked (network_text input) seed (λ t. RecordsAnswer (meaning_at t) (behind_separator (lines_of input)) status octets) (IsRunDue asked input [] status octets) simulates
+    only_simulation asked (network_text input) seed (λ t. RecordsAnswer (meaning_at t) (behind_separator (lines_of input)) status octets)
+    (IsRunDue asked input [] status octets) simulates
     (λ s own a due. records_due asked input status octets s own a due) task asks due
 
-first_due : (asked : CommandLine) (seed : ℕ) (input octets : List ℕ) (task : Task) → IsSimulation asked seed → AsksFor asked (network_text input) task → StandsFirst (meaning_at task) (behind_separator (lines_of input)) octets →
+first_due : (asked : CommandLine) (seed : ℕ) (input octets : List ℕ) (task : Task) → IsSimulation asked seed → AsksFor asked (network_text input) task
+    → StandsFirst (meaning_at task) (behind_separator (lines_of input)) octets →
     IsRunDue asked input [] OutOfMemory octets
 first_due asked seed input octets task simulates asks first =
-    only_simulation asked (network_text input) seed (λ t. StandsFirst (meaning_at t) (behind_separator (lines_of input)) octets) (IsRunDue asked input [] OutOfMemory octets) simulates
+    only_simulation asked (network_text input) seed (λ t. StandsFirst (meaning_at t) (behind_separator (lines_of input)) octets)
+    (IsRunDue asked input [] OutOfMemory octets) simulates
     (λ s own a due. stand_first asked input octets s own a due) task asks first
 
 -- where the source failed, no event was made
-cut_due : (asked : CommandLine) (seed : ℕ) (input taken octets : List ℕ) → IsSimulation asked seed → CutTask asked taken octets → IsRunDue asked input [] ReadFault octets
+cut_due : (asked : CommandLine) (seed : ℕ) (input taken octets : List ℕ) → IsSimulation asked seed → CutTask asked taken octets
+    → IsRunDue asked input [] ReadFault octets
 cut_due asked seed input taken octets simulates h =
     only_simulation asked h.text seed (λ task. CutHandled (meaning_at task).accepts h.back octets) (IsRunDue asked input [] ReadFault octets) simulates
     (λ s own asks cut. inl cut.handled.accepted.2) h.task h.asks h.handled
@@ -162,13 +174,16 @@ run_so asked seed simulates = record {
 abbrev pub IsMadeSo : CommandLine → (held now : Option (List ℕ)) → Status → List ℕ → Type 0
 IsMadeSo asked held now status input = (octets : List ℕ) × Appends held now octets × SimHeadline asked input status octets
 
-headline_of : MadeEventsCarryParts → (run : Run) (input : List ℕ) (status : Status) → PrintsDue (IsRunDue run.asked) run status input → IsMadeSo run.asked run.sink.before run.sink.now status input
+headline_of : MadeEventsCarryParts → (run : Run) (input : List ℕ) (status : Status) → PrintsDue (IsRunDue run.asked) run status input
+    → IsMadeSo run.asked run.sink.before run.sink.now status input
 headline_of parts run input status h = (h.0, h.2, record { prints = h.4; carries = λ s events made. parts run.asked input s events made })
 
-run_told : MadeEventsCarryParts → (run : Run) (status : Status) (seed : ℕ) (o : Option (List ℕ)) → Ends run status → IsSimulation run.asked seed → run.source.before ≡ o → IfSome o (IsMadeSo run.asked run.sink.before run.sink.now status)
+run_told : MadeEventsCarryParts → (run : Run) (status : Status) (seed : ℕ) (o : Option (List ℕ)) → Ends run status → IsSimulation run.asked seed
+    → run.source.before ≡ o → IfSome o (IsMadeSo run.asked run.sink.before run.sink.now status)
 run_told parts run status seed None ends simulates is = tt
 run_told parts run status seed (Some input) ends simulates is =
     headline_of parts run input status (prints run input status (IsRunDue run.asked) (run_so run.asked seed simulates) is ends)
 
-pub simulation_told : MadeEventsCarryParts → (run : Run) (status : Status) (seed : ℕ) → Ends run status → IsSimulation run.asked seed → IfSome run.source.before (IsMadeSo run.asked run.sink.before run.sink.now status)
+pub simulation_told : MadeEventsCarryParts → (run : Run) (status : Status) (seed : ℕ) → Ends run status → IsSimulation run.asked seed
+    → IfSome run.source.before (IsMadeSo run.asked run.sink.before run.sink.now status)
 simulation_told parts run status seed ends simulates = run_told parts run status seed run.source.before ends simulates refl

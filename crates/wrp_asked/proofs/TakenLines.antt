@@ -26,11 +26,13 @@ octet_alone : (Q P : List ℕ → Type 0) → HoldsInFront Q → (octet : ℕ) (
 octet_alone Q P in_front octet [] both = both.0
 octet_alone Q P in_front octet (line ∷ lines) both = in_front (octet ∷ []) line both.0
 
-behind_octet : (Q P : List ℕ → Type 0) (octet : ℕ) (lines : List (List ℕ)) → FirstAndOthers Q P (onto octet lines) → FirstAndOthers (λ (line : List ℕ). Q (octet ∷ line)) P lines
+behind_octet : (Q P : List ℕ → Type 0) (octet : ℕ) (lines : List (List ℕ)) → FirstAndOthers Q P (onto octet lines)
+    → FirstAndOthers (λ (line : List ℕ). Q (octet ∷ line)) P lines
 behind_octet Q P octet [] both = tt
 behind_octet Q P octet (line ∷ lines) both = both
 
-with_octet : (Q P : List ℕ → Type 0) (octet : ℕ) (lines : List (List ℕ)) → Q (octet ∷ []) → FirstAndOthers (λ (line : List ℕ). Q (octet ∷ line)) P lines → FirstAndOthers Q P (onto octet lines)
+with_octet : (Q P : List ℕ → Type 0) (octet : ℕ) (lines : List (List ℕ)) → Q (octet ∷ []) → FirstAndOthers (λ (line : List ℕ). Q (octet ∷ line)) P lines
+    → FirstAndOthers Q P (onto octet lines)
 with_octet Q P octet [] alone both = (alone, tt)
 with_octet Q P octet (line ∷ lines) alone both = both
 
@@ -48,7 +50,8 @@ one_octet Q P in_front true octet lines taken all first both = (both.0, all both
 one_octet Q P in_front false octet lines taken all first both =
     with_octet Q P octet taken (octet_alone Q P in_front octet lines both) (first (behind_octet Q P octet lines both))
 
-taken_first : (Q P : List ℕ → Type 0) → HoldsInFront Q → HoldsInFront P → (text : List ℕ) (n : ℕ) → FirstAndOthers Q P (lines_of text) → FirstAndOthers Q P (lines_of (take n text))
+taken_first : (Q P : List ℕ → Type 0) → HoldsInFront Q → HoldsInFront P → (text : List ℕ) (n : ℕ) → FirstAndOthers Q P (lines_of text)
+    → FirstAndOthers Q P (lines_of (take n text))
 taken_first Q P of_first of_others text zero both = tt
 taken_first Q P of_first of_others [] (suc n) both = tt
 taken_first Q P of_first of_others (octet ∷ text) (suc n) both =
@@ -56,5 +59,6 @@ taken_first Q P of_first of_others (octet ∷ text) (suc n) both =
     (λ all. as_all P (lines_of (take n text)) (taken_first P P of_others of_others text n (as_first P (lines_of text) all)))
     (taken_first (λ (line : List ℕ). Q (octet ∷ line)) P (λ line rest h. of_first (octet ∷ line) rest h) of_others text n) both
 
-pub taken_lines : (P : List ℕ → Type 0) → HoldsInFront P → (text : List ℕ) (n : ℕ) → AllByRecursion P (lines_of text) → AllByRecursion P (lines_of (take n text))
+pub taken_lines : (P : List ℕ → Type 0) → HoldsInFront P → (text : List ℕ) (n : ℕ) → AllByRecursion P (lines_of text)
+    → AllByRecursion P (lines_of (take n text))
 taken_lines P in_front text n all = as_all P (lines_of (take n text)) (taken_first P P in_front in_front text n (as_first P (lines_of text) all))

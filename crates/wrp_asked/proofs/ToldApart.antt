@@ -42,7 +42,9 @@ step_text : (s : Setting) (w : WorldAt) (step : NodeStepAt) → concat (looped.s
 step_text s w step = concat_map _ step.outs
 
 event_text : (s : Setting) (before : List Happened) (h : Happened) → concat (steps_lines s before h) ≡ event_lines s before h
-event_text s before h = concat_flat (looped.step_lines s (world_after s (h ∷ before))) (step_lines s (world_after s (h ∷ before))) (step_text s (world_after s (h ∷ before))) (steps_at s before h)
+event_text s before h =
+    concat_flat (looped.step_lines s (world_after s (h ∷ before))) (step_lines s (world_after s (h ∷ before))) (step_text s (world_after s (h ∷ before)))
+    (steps_at s before h)
 
 -- what is written of the events
 pub came_text : (s : Setting) (events : List Happened) → loop_text s events ≡ came_lines s events
@@ -64,7 +66,8 @@ abbrev pub count_if : List ℕ → ℕ → Reason → Bool → ℕ → List (Lis
 count_if name port reason none value = if none then [] else count_line_of name port (number_of reason) value ∷ []
 
 abbrev pub port_lines : List ℕ → ℕ → List ℕ → List (List ℕ)
-port_lines name port counters = flat_map (λ reason. count_if name port reason (count_at counters (number_of reason) == 0) (count_at counters (number_of reason))) reasons
+port_lines name port counters =
+    flat_map (λ reason. count_if name port reason (count_at counters (number_of reason) == 0) (count_at counters (number_of reason))) reasons
 
 abbrev pub port_if : List ℕ → Bool → ℕ → List ℕ → List (List ℕ)
 port_if name has port counters = if has then port_lines name port counters else []
@@ -76,7 +79,8 @@ node_lines s w n = flat_map (λ port. port_if (name_at s.cfg n) (has_port (line_
 abbrev pub count_lines : Setting → WorldAt → List (List ℕ)
 count_lines s w = flat_map (node_lines s w) (nodes_of s)
 
-count_text : (name : List ℕ) (port : ℕ) (reason : Reason) (none : Bool) (value : ℕ) → concat (count_if name port reason none value) ≡ (if none then [] else count_line_of name port (number_of reason) value)
+count_text : (name : List ℕ) (port : ℕ) (reason : Reason) (none : Bool) (value : ℕ)
+    → concat (count_if name port reason none value) ≡ (if none then [] else count_line_of name port (number_of reason) value)
 count_text name port reason true value = refl
 count_text name port reason false value = append-nil (count_line_of name port (number_of reason) value)
 
@@ -86,19 +90,22 @@ port_text name port counters =
     (λ reason. nonzero_line name port (number_of reason) (count_at counters (number_of reason)))
     (λ reason. count_text name port reason (count_at counters (number_of reason) == 0) (count_at counters (number_of reason))) reasons
 
-port_or_none : (name : List ℕ) (has : Bool) (port : ℕ) (counters : List ℕ) → concat (port_if name has port counters) ≡ (if has then port_counts name port counters else [])
+port_or_none : (name : List ℕ) (has : Bool) (port : ℕ) (counters : List ℕ)
+    → concat (port_if name has port counters) ≡ (if has then port_counts name port counters else [])
 port_or_none name true port counters = port_text name port counters
 port_or_none name false port counters = refl
 
 pub counts_text : (s : Setting) (w : WorldAt) → concat (count_lines s w) ≡ all_counts s w
 counts_text s w =
-    concat_flat (node_lines s w) (λ n. flat_map (λ port. if has_port (line_setting_in s n) port then port_counts (name_at s.cfg n) port ((w.node n).counters port) else []) port_numbers)
+    concat_flat (node_lines s w)
+    (λ n. flat_map (λ port. if has_port (line_setting_in s n) port then port_counts (name_at s.cfg n) port ((w.node n).counters port) else []) port_numbers)
     (λ n. concat_flat (λ port. port_if (name_at s.cfg n) (has_port (line_setting_in s n) port) port ((w.node n).counters port))
     (λ port. if has_port (line_setting_in s n) port then port_counts (name_at s.cfg n) port ((w.node n).counters port) else [])
     (λ port. port_or_none (name_at s.cfg n) (has_port (line_setting_in s n) port) port ((w.node n).counters port)) port_numbers) (nodes_of s)
 
 -- of lines that are made one by one
-pub flat_all : {A : Type 0} (P : List ℕ → Type 0) (f : A → List (List ℕ)) → ((a : A) → AllByRecursion P (f a)) → (xs : List A) → AllByRecursion P (flat_map f xs)
+pub flat_all : {A : Type 0} (P : List ℕ → Type 0) (f : A → List (List ℕ)) → ((a : A) → AllByRecursion P (f a)) → (xs : List A)
+    → AllByRecursion P (flat_map f xs)
 flat_all P f each [] = tt
 flat_all P f each (x ∷ xs) = all_append P (f x) (flat_map f xs) (each x) (flat_all P f each xs)
 
@@ -106,7 +113,8 @@ flat_all P f each (x ∷ xs) = all_append P (f x) (flat_map f xs) (each x) (flat
 abbrev IsUnmarked : List ℕ → Type 0
 IsUnmarked line = is_marked line ≡ false
 
-count_plain : (s : Setting) → IsNetwork s → (n port : ℕ) (reason : Reason) (none : Bool) (value : ℕ) → NoneIsMarked (count_if (name_at s.cfg n) port reason none value)
+count_plain : (s : Setting) → IsNetwork s → (n port : ℕ) (reason : Reason) (none : Bool) (value : ℕ)
+    → NoneIsMarked (count_if (name_at s.cfg n) port reason none value)
 count_plain s net n port reason true value = tt
 count_plain s net n port reason false value =
     (at_name (slice_get s.cfg.nodes.items n) (line_of (count_words port (reason_word (number_of reason)) value)) (λ node is. net.accepted.names.node n node is), tt)
@@ -126,7 +134,8 @@ counts_plain s net w =
 -- All lines
 
 pub all_text : (s : Setting) (events : List Happened) (forged : ℕ) →
-    loop_text s events ++ (all_counts s (world_after s events) ++ concat (forged_lines forged)) ≡ concat (all_lines s events (count_lines s (world_after s events)) forged)
+    loop_text s events ++ (all_counts s (world_after s events) ++ concat (forged_lines forged))
+    ≡ concat (all_lines s events (count_lines s (world_after s events)) forged)
 all_text s events forged =
     let w : WorldAt = world_after s events in
     ap (λ (counts : List ℕ). loop_text s events ++ (counts ++ concat (forged_lines forged))) (sym (counts_text s w))

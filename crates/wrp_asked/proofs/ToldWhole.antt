@@ -110,7 +110,8 @@ reason_is Unmatched = refl
 reason_is Range = refl
 reason_is Sample = refl
 
-count_whole : (s : Setting) → IsNetwork s → (n port : ℕ) (reason : Reason) (none : Bool) (value : ℕ) → AllByRecursion IsWhole (count_if (name_at s.cfg n) port reason none value)
+count_whole : (s : Setting) → IsNetwork s → (n port : ℕ) (reason : Reason) (none : Bool) (value : ℕ)
+    → AllByRecursion IsWhole (count_if (name_at s.cfg n) port reason none value)
 count_whole s net n port reason true value = tt
 count_whole s net n port reason false value = (
   line_whole (name_at s.cfg n ∷ count_words port (reason_word (number_of reason)) value)
@@ -118,7 +119,8 @@ count_whole s net n port reason false value = (
   tt,
 )
 
-port_whole : (s : Setting) → IsNetwork s → (n : ℕ) (has : Bool) (port : ℕ) (counters : List ℕ) → AllByRecursion IsWhole (port_if (name_at s.cfg n) has port counters)
+port_whole : (s : Setting) → IsNetwork s → (n : ℕ) (has : Bool) (port : ℕ) (counters : List ℕ)
+    → AllByRecursion IsWhole (port_if (name_at s.cfg n) has port counters)
 port_whole s net n true port counters =
     flat_all IsWhole (λ reason. count_if (name_at s.cfg n) port reason (count_at counters (number_of reason) == 0) (count_at counters (number_of reason)))
     (λ reason. count_whole s net n port reason (count_at counters (number_of reason) == 0) (count_at counters (number_of reason))) reasons

@@ -37,7 +37,8 @@ record SaysTrack (o : Output) (most truth : ℤ) (est bound off : List ℕ) : Ty
   told : signed_decimal truth ≡ off
 
 track_says : (estimate most truth : ℤ) (est bound off : List ℕ) → IsWord est → IsWord bound → IsWord off →
-    TrackLine (signed_decimal estimate) (signed_decimal most) (signed_decimal truth) ≡ TrackLine est bound off → SaysTrack (Report (Track estimate)) most truth est bound off
+    TrackLine (signed_decimal estimate) (signed_decimal most) (signed_decimal truth) ≡ TrackLine est bound off
+    → SaysTrack (Report (Track estimate)) most truth est bound off
 track_says estimate most truth est bound off h k l e =
     let told : List ℕ = TrueLine (signed_decimal truth) in
     let tail : signed_decimal estimate ++ 32 ∷ (signed_decimal most ++ 32 ∷ told) ≡ est ++ 32 ∷ (bound ++ 32 ∷ TrueLine off) =
@@ -50,7 +51,8 @@ track_says estimate most truth est bound off h k l e =
     let three : SameWord (signed_decimal truth) off 10 10 [] [] = first_word (signed_decimal truth) off 10 10 [] [] (signed_word truth) l refl refl last in
     record { estimate = estimate; is = refl; estimated = one.word; bounded = two.word; told = three.word }
 
-says : (o : Output) (most truth : ℤ) (est bound off : List ℕ) → IsWord est → IsWord bound → IsWord off → line_of (output_words o most (Some truth)) ≡ TrackLine est bound off → SaysTrack o most truth est bound off
+says : (o : Output) (most truth : ℤ) (est bound off : List ℕ) → IsWord est → IsWord bound → IsWord off
+    → line_of (output_words o most (Some truth)) ≡ TrackLine est bound off → SaysTrack o most truth est bound off
 says (Send p frame) most truth est bound off h k l e = absurd (let f : 115 ≡ 116 = ap head_of e in omega (arith, f))
 says (Step cycles) most truth est bound off h k l e = absurd (let f : 115 ≡ 116 = ap head_of e in omega (arith, f))
 says (Dac value) most truth est bound off h k l e = absurd (let f : 100 ≡ 116 = ap head_of e in omega (arith, f))
@@ -69,7 +71,8 @@ line_true s w n o names true_ = λ node tick est bound off a b c d f e.
     let line : List ℕ = line_of (output_words o most (Some truth)) in
     let parts : name_at s.cfg n ++ 32 ∷ (decimal ticks ++ 32 ∷ line) ≡ node ++ 32 ∷ (tick ++ 32 ∷ TrackLine est bound off) =
     sym (behind_two (name_at s.cfg n) (decimal ticks) o most (Some truth)) ∙ e in
-    let one = first_word (name_at s.cfg n) node 32 32 (decimal ticks ++ 32 ∷ line) (tick ++ 32 ∷ TrackLine est bound off) (at_word s.cfg names n) a refl refl parts in
+    let one =
+    first_word (name_at s.cfg n) node 32 32 (decimal ticks ++ 32 ∷ line) (tick ++ 32 ∷ TrackLine est bound off) (at_word s.cfg names n) a refl refl parts in
     let two = first_word (decimal ticks) tick 32 32 line (TrackLine est bound off) (decimal_word ticks) b refl refl one.rest in
     let it : SaysTrack o most truth est bound off = says o most truth est bound off c d f two.rest in
     let report : IsTrueReport s w n it.estimate = true_there s w n o it.estimate true_ it.is in
@@ -88,9 +91,11 @@ line_true s w n o names true_ = λ node tick est bound off a b c d f e.
       report = report;
     }
 
-step_true : (s : Setting) (w : WorldAt) (step : NodeStepAt) → HasNames s.cfg → IsTrueStep s w step → AllByRecursion (λ (o : Output). IsTrueLine s w (line_at s w step.node o)) step.outs
+step_true : (s : Setting) (w : WorldAt) (step : NodeStepAt) → HasNames s.cfg → IsTrueStep s w step
+    → AllByRecursion (λ (o : Output). IsTrueLine s w (line_at s w step.node o)) step.outs
 step_true s w step names are =
-    all_weaker (IsTrueOutput s w step.node) (λ (o : Output). IsTrueLine s w (line_at s w step.node o)) (λ o true_. line_true s w step.node o names true_) step.outs are
+    all_weaker (IsTrueOutput s w step.node) (λ (o : Output). IsTrueLine s w (line_at s w step.node o))
+    (λ o true_. line_true s w step.node o names true_) step.outs are
 
 -- each line of the steps of an event
 pub lines_are_true : (has_line : Output → Bool) (s : Setting) (w : WorldAt) (steps : List NodeStepAt) → HasNames s.cfg → AllByRecursion (IsTrueStep s w) steps →

@@ -49,7 +49,8 @@ true_run s events runs = record { run = runs.run; fit = runs.fit; answered = ans
 
 -- At each event
 
-true_at : TracksHoldInRuns → (has_line : Output → Bool) (s : Setting) (h : Happened) (before : List Happened) → RunsNear s (h ∷ before) → IsTrueAt (writes has_line) s before h
+true_at : TracksHoldInRuns → (has_line : Output → Bool) (s : Setting) (h : Happened) (before : List Happened) → RunsNear s (h ∷ before)
+    → IsTrueAt (writes has_line) s before h
 true_at tracks has_line s h before runs =
     let holds : TracksHold s h before = tracks s h before (true_run s (h ∷ before) runs) in
     record {
@@ -59,7 +60,8 @@ true_at tracks has_line s h before runs =
     }
 
 -- whichever outputs have a line
-pub tracks_hold : TracksHoldInRuns → (has_line : Output → Bool) (s : Setting) (events : List Happened) → RunsNear s events → TracksAreWithin (writes has_line) s events
+pub tracks_hold : TracksHoldInRuns → (has_line : Output → Bool) (s : Setting) (events : List Happened) → RunsNear s events
+    → TracksAreWithin (writes has_line) s events
 tracks_hold tracks has_line s [] runs = tt
 tracks_hold tracks has_line s (h ∷ before) runs = (true_at tracks has_line s h before runs, tracks_hold tracks has_line s before (runs_before s h before runs))
 
@@ -72,7 +74,8 @@ all_fit : (events : List Happened) → AllByRecursion (λ (h : Happened). FitsEv
 all_fit [] h = tt
 all_fit (k ∷ events) h = (h.0, all_fit events h.1)
 
-pub audit_runs : EventsCanCome → ReadingIsAccepted → (asked : CommandLine) (input : List ℕ) (s : Setting) (events : List Happened) → Came asked input s events → RunsNear s events
+pub audit_runs : EventsCanCome → ReadingIsAccepted → (asked : CommandLine) (input : List ℕ) (s : Setting) (events : List Happened) → Came asked input s events
+    → RunsNear s events
 audit_runs can accepted asked input s events came = record {
   run = run_of can accepted asked input s events came;
   fit = all_fit events (events_said FitsEvent s (line_fits s.cfg) _ events came.audit.are);
@@ -85,7 +88,8 @@ audit_runs can accepted asked input s events came = record {
 pub few_events : (events : List Happened) → length events < event_limit → length events < 2 ^ 32
 few_events events few = omega (arith, few)
 
-pub simulation_runs : SimRunsAreRuns → ReadingIsAccepted → (asked : CommandLine) (input : List ℕ) (s : Setting) (events : List Happened) → Made asked input s events → RunsNear s events
+pub simulation_runs : SimRunsAreRuns → ReadingIsAccepted → (asked : CommandLine) (input : List ℕ) (s : Setting) (events : List Happened)
+    → Made asked input s events → RunsNear s events
 simulation_runs runs accepted asked input s events made =
     let run : IsRun s events = made_run runs accepted asked input s events made in
     record {

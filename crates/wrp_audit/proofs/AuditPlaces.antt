@@ -11,7 +11,9 @@ use Rattle.wrp_audit.specs.AuditStands.{Took, line_by}
 use Rattle.wrp_audit.proofs.AuditSteps.{took_of}
 
 -- it was taken
-pub took_at : {F : Type 0} (post : F → ℤ → ℤ → Type 0) (emit : Option ℕ) (s : Setting) (w : WorldAt) (e own : Event) (old new : WorldOf F) (outs : List NodeOut) (text : List ℕ) → own ≡ e → StandsFor post s w old → Stepped post own old new outs
+pub took_at : {F : Type 0} (post : F → ℤ → ℤ → Type 0) (emit : Option ℕ) (s : Setting) (w : WorldAt) (e own : Event) (old new : WorldOf F) (outs : List NodeOut)
+    (text : List ℕ)
+    → own ≡ e → StandsFor post s w old → Stepped post own old new outs
     → ((v : WorldAt) → StandsFor post s v new → text ≡ flat_map (line_by emit s v) (map step_seen outs)) → Took post emit s w (bare e) new text
 took_at post emit s w e own old new outs text is stood stepped wrote =
     subst (λ (x : Event). Took post emit s w (bare x) new text) is (took_of post emit s w own old new outs text stood stepped wrote)

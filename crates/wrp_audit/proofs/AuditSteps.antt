@@ -55,7 +55,8 @@ use Rattle.wrp_network_world.proofs.WorldRuns.{answered, laws_stay, made_after}
 
 -- Frames are read as their octets say
 
-all_heard : {F : Type 0} {post : F → ℤ → ℤ → Type 0} (net : Network) (w : WorldAt) (world : WorldOf F) → length world.nodes ≡ node_count net.cfg → StandsFor post (setting_in net) w world → AllHeard (setting_in net) w
+all_heard : {F : Type 0} {post : F → ℤ → ℤ → Type 0} (net : Network) (w : WorldAt) (world : WorldOf F) → length world.nodes ≡ node_count net.cfg
+    → StandsFor post (setting_in net) w world → AllHeard (setting_in net) w
 all_heard {F} {post} net w world counted stands n below =
     let item = has_item world.nodes n (omega (arith, below, counted)) in
     (stands.nodes n item.0 item.1).stands.said
@@ -63,8 +64,10 @@ all_heard {F} {post} net w world counted stands n below =
 -- One event more
 
 -- the run with it
-one_run_more : {F : Type 0} {post : F → ℤ → ℤ → Type 0} (net : Network) (emit : Option ℕ) (lines : List (List ℕ)) (line text : List ℕ) (events : List Happened) (e : Event) (new : WorldOf F)
-    → IsTree net.cfg → length new.nodes ≡ node_count net.cfg → HasLawOf post (setting_in net) new → IsAudit (setting_in net) lines events → event_read net.cfg line ≡ Ok e
+one_run_more : {F : Type 0} {post : F → ℤ → ℤ → Type 0} (net : Network) (emit : Option ℕ) (lines : List (List ℕ)) (line text : List ℕ) (events : List Happened)
+    (e : Event) (new : WorldOf F)
+    → IsTree net.cfg → length new.nodes ≡ node_count net.cfg → HasLawOf post (setting_in net) new → IsAudit (setting_in net) lines events
+    → event_read net.cfg line ≡ Ok e
     → (took : Took post emit (setting_in net) (world_after (setting_in net) events) e new text)
     → IsAudit (setting_in net) (lines ++ line ∷ []) (record { event = e; says = took.says; answer = took.answer } ∷ events)
 one_run_more {F} {post} net emit lines line text events e new tree counted laws audit reads took =
@@ -74,7 +77,8 @@ one_run_more {F} {post} net emit lines line text events e new tree counted laws 
       run = record {
         accepted = (took.accepted, audit.run.accepted);
         said = (took.said, audit.run.said);
-        answered = answered {post = post} net (world_after (setting_in net) (h ∷ events)) new tree counted took.stands laws (made_after (setting_in net) (h ∷ events));
+        answered =
+            answered {post = post} net (world_after (setting_in net) (h ∷ events)) new tree counted took.stands laws (made_after (setting_in net) (h ∷ events));
       };
       heard = all_heard {post = post} net (world_after (setting_in net) (h ∷ events)) new counted took.stands;
     }
@@ -91,12 +95,14 @@ same_text : OneAudit → (emit : Option ℕ) (s : Setting) (lines : List (List �
 same_text one None s lines events before audit p = p.2 ∙ (one s lines p.0 events p.1 audit).lines
 same_text one (Some n) s lines events before audit p = p.2 ∙ (one s lines p.0 events p.1 audit).given n
 
-accepts_by : (emit : Option ℕ) (s : Setting) (lines : List (List ℕ)) (events : List Happened) (text : List ℕ) → IsAudit s lines events → text ≡ lines_by emit s events
+accepts_by : (emit : Option ℕ) (s : Setting) (lines : List (List ℕ)) (events : List Happened) (text : List ℕ) → IsAudit s lines events
+    → text ≡ lines_by emit s events
     → (meaning_for emit s).accepts lines text
 accepts_by None s lines events text audit is = (events, audit, is)
 accepts_by (Some n) s lines events text audit is = (events, audit, is)
 
-pub goes_on : {F : Type 0} {pre : F → ℤ → Type 0} {post : F → ℤ → ℤ → Type 0} → OneAudit → (held now : AuditedNetwork F) (lines : List (List ℕ)) (line before text : List ℕ) (e : Event)
+pub goes_on : {F : Type 0} {pre : F → ℤ → Type 0} {post : F → ℤ → ℤ → Type 0} → OneAudit
+    → (held now : AuditedNetwork F) (lines : List (List ℕ)) (line before text : List ℕ) (e : Event)
     → event_read held.world.plant.net.cfg line ≡ Ok e → now.world.plant.net ≡ held.world.plant.net → CanAudit pre post now
     → ((w : WorldAt) → StandsFor post (setting_in held.world.plant.net) w held.world → Took post held.emit (setting_in held.world.plant.net) w e now.world text)
     → HasAudited post held lines → (meaning_for held.emit (setting_in held.world.plant.net)).accepts lines before
@@ -110,7 +116,8 @@ goes_on {F} {pre} {post} one held now lines line before text e reads kept ready 
     let tree : IsTree net.cfg = subst (λ (k : Network). IsTree k.cfg) kept ready.valid.plant.accepted.tree in
     let counted : length now.world.nodes ≡ node_count net.cfg = ready.valid.node_count ∙ ap (λ (k : Network). node_count k.cfg) kept in
     let laws : HasLawOf post s now.world = subst (λ (k : Network). HasLawOf post (setting_in k) now.world) kept ready.laws in
-    let audit : IsAudit s (lines ++ line ∷ []) (h ∷ events) = one_run_more {post = post} net held.emit lines line text events e now.world tree counted laws taken.1.audit reads took in
+    let audit : IsAudit s (lines ++ line ∷ []) (h ∷ events) =
+    one_run_more {post = post} net held.emit lines line text events e now.world tree counted laws taken.1.audit reads took in
     let is : before ++ text ≡ lines_by held.emit s (h ∷ events) =
     ap (λ (l : List ℕ). l ++ text) (same_text one held.emit s lines events before taken.1.audit accepted) ∙ wrote_more held.emit s events h text took.wrote in (
       (
@@ -125,12 +132,15 @@ goes_on {F} {pre} {post} one held now lines line before text e reads kept ready 
 
 -- What a step of the world answers
 
-pub took_of : {F : Type 0} (post : F → ℤ → ℤ → Type 0) (emit : Option ℕ) (s : Setting) (w : WorldAt) (e : Event) (old new : WorldOf F) (outs : List NodeOut) (text : List ℕ) → StandsFor post s w old → Stepped post e old new outs
+pub took_of : {F : Type 0} (post : F → ℤ → ℤ → Type 0) (emit : Option ℕ) (s : Setting) (w : WorldAt) (e : Event) (old new : WorldOf F) (outs : List NodeOut)
+    (text : List ℕ)
+    → StandsFor post s w old → Stepped post e old new outs
     → ((v : WorldAt) → StandsFor post s v new → text ≡ flat_map (line_by emit s v) (map step_seen outs)) → Took post emit s w (bare e) new text
 took_of {F} post emit s w e old new outs text stood stepped wrote =
     let says = stepped.0 in
     let answer : ℤ = stepped.1 in
-    let stands : StandsFor post s (world_step s says answer w (bare e)) new = subst (λ (v : WorldAt). StandsFor post s v new) (sym (same_world s says answer w e)) (stepped.2.stands s w stood) in
+    let stands : StandsFor post s (world_step s says answer w (bare e)) new =
+    subst (λ (v : WorldAt). StandsFor post s v new) (sym (same_world s says answer w e)) (stepped.2.stands s w stood) in
     record {
       says = says;
       answer = answer;
@@ -141,8 +151,11 @@ took_of {F} post emit s w e old new outs text stood stepped wrote =
           ∙ ap (flat_map (line_by emit s (world_step s says answer w (bare e)))) (stepped.2.seen s w stood ∙ sym (same_steps s says answer w e));
     }
 
-pub broke_of : {F : Type 0} (post : F → ℤ → ℤ → Type 0) (s : Setting) (w : WorldAt) (e : Event) (old : WorldOf F) (premise : ℕ) (shown bound : ℤ) (number : ℕ) (text : List ℕ) → StandsFor post s w old
-    → IsRefusal post e old (Broken premise shown bound) → text ≡ broken_line number (record { premise = premise; shown = shown; bound = bound }) → Broke s w (bare e) number text
+pub broke_of : {F : Type 0} (post : F → ℤ → ℤ → Type 0) (s : Setting) (w : WorldAt) (e : Event) (old : WorldOf F) (premise : ℕ) (shown bound : ℤ) (number : ℕ)
+    (text : List ℕ)
+    → StandsFor post s w old
+    → IsRefusal post e old (Broken premise shown bound) → text ≡ broken_line number (record { premise = premise; shown = shown; bound = bound })
+    → Broke s w (bare e) number text
 broke_of post s w e old premise shown bound number text stood refused wrote = record {
   says = refused.0;
   said = same_said e refused.0 refused.1;
@@ -152,8 +165,10 @@ broke_of post s w e old premise shown bound number text stood refused wrote = re
 }
 
 -- a line that is refused
-pub refuses_broken : {F : Type 0} {post : F → ℤ → ℤ → Type 0} (held : AuditedNetwork F) (lines : List (List ℕ)) (line text : List ℕ) (e : Event) (number : ℕ) → event_read held.world.plant.net.cfg line ≡ Ok e
-    → number ≡ length lines + 1 → ((w : WorldAt) → StandsFor post (setting_in held.world.plant.net) w held.world → Broke (setting_in held.world.plant.net) w e number text)
+pub refuses_broken : {F : Type 0} {post : F → ℤ → ℤ → Type 0} (held : AuditedNetwork F) (lines : List (List ℕ)) (line text : List ℕ) (e : Event) (number : ℕ)
+    → event_read held.world.plant.net.cfg line ≡ Ok e
+    → number ≡ length lines + 1
+    → ((w : WorldAt) → StandsFor post (setting_in held.world.plant.net) w held.world → Broke (setting_in held.world.plant.net) w e number text)
     → HasAudited post held lines → (meaning_for held.emit (setting_in held.world.plant.net)).refuses lines line refusals.Broken text
 refuses_broken held lines line text e number reads counts breaks taken =
     let s : Setting = setting_in held.world.plant.net in
@@ -170,11 +185,13 @@ refuses_broken held lines line text e number reads counts breaks taken =
       is = broke.wrote ∙ ap (λ (k : ℕ). broken_line k broke.breach) counts;
     })
   where
-    by_emit : (emit : Option ℕ) → Breaks (setting_in held.world.plant.net) lines line text → (meaning_for emit (setting_in held.world.plant.net)).refuses lines line refusals.Broken text
+    by_emit : (emit : Option ℕ) → Breaks (setting_in held.world.plant.net) lines line text
+        → (meaning_for emit (setting_in held.world.plant.net)).refuses lines line refusals.Broken text
     by_emit None h = h
     by_emit (Some n) h = h
 
-pub refuses_trace : (emit : Option ℕ) (net : Network) (lines : List (List ℕ)) (line text : List ℕ) (fault : TraceFault) → event_read net.cfg line ≡ Err fault → text ≡ bad_trace_line (length lines + 1) fault
+pub refuses_trace : (emit : Option ℕ) (net : Network) (lines : List (List ℕ)) (line text : List ℕ) (fault : TraceFault) → event_read net.cfg line ≡ Err fault
+    → text ≡ bad_trace_line (length lines + 1) fault
     → (meaning_for emit (setting_in net)).refuses lines line refusals.BadTrace text
 refuses_trace None net lines line text fault reads is = (fault, reads, is)
 refuses_trace (Some n) net lines line text fault reads is = (fault, reads, is)
@@ -186,12 +203,15 @@ counted_all s y v [] = refl
 counted_all s y v (g ∷ gs) = counted_all s y (gives s y v g) gs
 
 -- one event more is counted
-pub one_more_event : {F : Type 0} (post : F → ℤ → ℤ → Type 0) (s : Setting) (w : WorldAt) (e : Event) (old new : WorldOf F) (outs : List NodeOut) → StandsFor post s w old → Stepped post e old new outs
+pub one_more_event : {F : Type 0} (post : F → ℤ → ℤ → Type 0) (s : Setting) (w : WorldAt) (e : Event) (old new : WorldOf F) (outs : List NodeOut)
+    → StandsFor post s w old → Stepped post e old new outs
     → new.plant.events ≡ old.plant.events + 1
 one_more_event post s w e old new outs stood stepped =
-    (stepped.2.stands s w stood).plant.count ∙ counted_all s stepped.1 (moved s w e) (given_by s w (moved s w e) stepped.0 e) ∙ ap (λ (k : ℕ). k + 1) (sym stood.plant.count)
+    (stepped.2.stands s w stood).plant.count ∙ counted_all s stepped.1 (moved s w e) (given_by s w (moved s w e) stepped.0 e)
+    ∙ ap (λ (k : ℕ). k + 1) (sym stood.plant.count)
 
-pub same_count : {F : Type 0} (post : F → ℤ → ℤ → Type 0) (s : Setting) (w : WorldAt) (old new : WorldOf F) → StandsFor post s w old → StaysSo post old new → new.plant.events ≡ old.plant.events
+pub same_count : {F : Type 0} (post : F → ℤ → ℤ → Type 0) (s : Setting) (w : WorldAt) (old new : WorldOf F) → StandsFor post s w old → StaysSo post old new
+    → new.plant.events ≡ old.plant.events
 same_count post s w old new stood stays = (stays s w stood).plant.count ∙ sym stood.plant.count
 
 -- no lines are a run, which writes nothing
@@ -211,24 +231,32 @@ audit_passes (Some n) s source sink rest had ended status at = at
 
 -- The lines of a step
 
-pub step_text : {F : Type 0} (post : F → ℤ → ℤ → Type 0) (s : Setting) (w : WorldAt) (world : WorldOf F) (out : NodeOut) (node : NodeOf F) (ticks : ℕ) (off : ℤ) (name : List ℕ) (bound : ℤ) (lent : List Output) (text old : List ℕ) → StandsFor post s w world
-    → slice_get world.nodes out.node ≡ Some node → ((fixed : NodeSetting) (inputs : List TakenInput) → NodeStandsFor post fixed node inputs → ticks ≡ (node_after fixed inputs).ticks)
-    → ((s : Setting) (w : WorldAt) → StandsFor post s w world → off ≡ (w.clock out.node).off) → name ≡ name_at world.plant.net.cfg out.node → bound ≡ pos (path_of world.plant.net.cfg out.node)
+pub step_text : {F : Type 0} (post : F → ℤ → ℤ → Type 0) (s : Setting) (w : WorldAt) (world : WorldOf F) (out : NodeOut) (node : NodeOf F) (ticks : ℕ) (off : ℤ)
+    (name : List ℕ) (bound : ℤ) (lent : List Output) (text old : List ℕ)
+    → StandsFor post s w world
+    → slice_get world.nodes out.node ≡ Some node
+    → ((fixed : NodeSetting) (inputs : List TakenInput) → NodeStandsFor post fixed node inputs → ticks ≡ (node_after fixed inputs).ticks)
+    → ((s : Setting) (w : WorldAt) → StandsFor post s w world → off ≡ (w.clock out.node).off) → name ≡ name_at world.plant.net.cfg out.node
+    → bound ≡ pos (path_of world.plant.net.cfg out.node)
     → lent ≡ out.outs.items → text ≡ old ++ flat_map (λ o. output_line_of name ticks o bound (Some off)) lent → text ≡ old ++ step_lines s w (step_seen out)
 step_text post s w world out node ticks off name bound lent text old stands is ticked offs named bounded lends wrote =
     let ticks_are : ticks ≡ (w.node out.node).ticks =
-    ticked (node_setting_of s out.node) (w.inputs out.node) (stands.nodes out.node node is).stands ∙ ap (λ (n : NodeAt). n.ticks) (sym (stands.nodes out.node node is).at) in
+    ticked (node_setting_of s out.node) (w.inputs out.node) (stands.nodes out.node node is).stands
+    ∙ ap (λ (n : NodeAt). n.ticks) (sym (stands.nodes out.node node is).at) in
     let name_is : name ≡ name_at s.cfg out.node = named ∙ ap (λ (cfg : NetCfg). name_at cfg out.node) stands.plant.cfg in
     let bound_is : bound ≡ pos (path_of s.cfg out.node) = bounded ∙ ap (λ (cfg : NetCfg). pos (path_of cfg out.node)) stands.plant.cfg in
     wrote ∙ (λ i. old ++ flat_map (λ o. output_line_of (name_is i) (ticks_are i) o (bound_is i) (Some (offs s w stands i))) (lends i))
 
 -- What can take an event still can behind one
 
-pub can_stay : {F : Type 0} {pre : F → ℤ → Type 0} {post : F → ℤ → ℤ → Type 0} (held now : AuditedNetwork F) → CanAudit pre post held → IsValid pre post now.world → now.world.plant.net ≡ held.world.plant.net → now.emit ≡ held.emit → now.bounds.items ≡ held.bounds.items
+pub can_stay : {F : Type 0} {pre : F → ℤ → Type 0} {post : F → ℤ → ℤ → Type 0} (held now : AuditedNetwork F) → CanAudit pre post held
+    → IsValid pre post now.world → now.world.plant.net ≡ held.world.plant.net → now.emit ≡ held.emit → now.bounds.items ≡ held.bounds.items
     → map (λ (node : NodeOf F). law_in node.control) now.world.nodes ≡ map (λ (node : NodeOf F). law_in node.control) held.world.nodes → CanAudit pre post now
 can_stay {F} {pre} {post} held now can valid net emit bounds laws = record {
   valid = valid;
-  laws = subst (λ (k : Network). HasLawOf post (setting_in k) now.world) (sym net) (laws_stay post (setting_in held.world.plant.net) held.world now.world laws can.laws);
+  laws =
+      subst (λ (k : Network). HasLawOf post (setting_in k) now.world) (sym net)
+      (laws_stay post (setting_in held.world.plant.net) held.world now.world laws can.laws);
   emit = subst (λ (o : Option ℕ). IfSome o (λ n. n < node_count now.world.plant.net.cfg)) (sym emit)
       (subst (λ (k : Network). IfSome held.emit (λ n. n < node_count k.cfg)) (sym net) can.emit);
   bounds = subst (λ (items : List ℤ). AreBounds now.world.plant.net.cfg items) (sym bounds)
@@ -236,12 +264,14 @@ can_stay {F} {pre} {post} held now can valid net emit bounds laws = record {
 }
 
 -- and an event more is counted, or none
-pub counts_one : {F : Type 0} {pre : F → ℤ → Type 0} {post : F → ℤ → ℤ → Type 0} (e : Event) (old new : WorldOf F) (outs : List NodeOut) → IsValid pre post old → Stepped post e old new outs → new.plant.events ≤ old.plant.events + 1
+pub counts_one : {F : Type 0} {pre : F → ℤ → Type 0} {post : F → ℤ → ℤ → Type 0} (e : Event) (old new : WorldOf F) (outs : List NodeOut) → IsValid pre post old
+    → Stepped post e old new outs → new.plant.events ≤ old.plant.events + 1
 counts_one {post = post} e old new outs valid stepped =
     let one = one_more_event post valid.setting valid.state e old new outs valid.stands stepped in
     omega (arith, one)
 
-pub counts_none : {F : Type 0} {pre : F → ℤ → Type 0} {post : F → ℤ → ℤ → Type 0} (old new : WorldOf F) → IsValid pre post old → StaysSo post old new → new.plant.events ≤ old.plant.events + 1
+pub counts_none : {F : Type 0} {pre : F → ℤ → Type 0} {post : F → ℤ → ℤ → Type 0} (old new : WorldOf F) → IsValid pre post old → StaysSo post old new
+    → new.plant.events ≤ old.plant.events + 1
 counts_none {post = post} old new valid stays =
     let same = same_count post valid.setting valid.state old new valid.stands stays in
     omega (arith, same)
@@ -252,27 +282,35 @@ behind_none {text} {old} {more} e none = e ∙ ap (λ (t : List ℕ). t ++ more)
 
 -- What is handled
 
-pub accepted_so : {F : Type 0} {pre : F → ℤ → Type 0} {post : F → ℤ → ℤ → Type 0} → OneAudit → (held now : AuditedNetwork F) (lines : List (List ℕ)) (line before text : List ℕ) (e : Event) (number : ℕ) (answer : Taken)
+pub accepted_so : {F : Type 0} {pre : F → ℤ → Type 0} {post : F → ℤ → ℤ → Type 0} → OneAudit
+    → (held now : AuditedNetwork F) (lines : List (List ℕ)) (line before text : List ℕ) (e : Event) (number : ℕ) (answer : Taken)
     → event_read held.world.plant.net.cfg line ≡ Ok e → now.world.plant.net ≡ held.world.plant.net → CanAudit pre post now
-    → ((w : WorldAt) → StandsFor post (setting_in held.world.plant.net) w held.world → Happens post held.emit (setting_in held.world.plant.net) w e number now.world text answer) → answer ≡ taken.Accepted
+    → ((w : WorldAt) → StandsFor post (setting_in held.world.plant.net) w held.world → Happens post held.emit (setting_in held.world.plant.net) w e number now.world text answer)
+    → answer ≡ taken.Accepted
     → HasAudited post held lines → (meaning_for held.emit (setting_in held.world.plant.net)).accepts lines before
     → HasAudited post now (lines ++ line ∷ []) × (meaning_for held.emit (setting_in held.world.plant.net)).accepts (lines ++ line ∷ []) (before ++ text)
 accepted_so {pre = pre} {post = post} one held now lines line before text e number answer reads kept ready happens is has accepted =
     goes_on {pre = pre} {post = post} one held now lines line before text e reads kept ready
     (λ w stood. subst (Happens post held.emit (setting_in held.world.plant.net) w e number now.world text) is (happens w stood)) has accepted
 
-pub refused_so : {F : Type 0} {post : F → ℤ → ℤ → Type 0} (held : AuditedNetwork F) (new : WorldOf F) (lines : List (List ℕ)) (line text : List ℕ) (e : Event) (number : ℕ) (answer : Taken) (refusal : Refusal)
+pub refused_so : {F : Type 0} {post : F → ℤ → ℤ → Type 0} (held : AuditedNetwork F) (new : WorldOf F) (lines : List (List ℕ)) (line text : List ℕ) (e : Event)
+    (number : ℕ) (answer : Taken) (refusal : Refusal)
     → event_read held.world.plant.net.cfg line ≡ Ok e → number ≡ length lines + 1
-    → ((w : WorldAt) → StandsFor post (setting_in held.world.plant.net) w held.world → Happens post held.emit (setting_in held.world.plant.net) w e number new text answer) → answer ≡ taken.Refused refusal
+    → ((w : WorldAt) → StandsFor post (setting_in held.world.plant.net) w held.world → Happens post held.emit (setting_in held.world.plant.net) w e number new text answer)
+    → answer ≡ taken.Refused refusal
     → HasAudited post held lines → (meaning_for held.emit (setting_in held.world.plant.net)).refuses lines line refusal text
 refused_so {post = post} held new lines line text e number answer refusals.BadTrace reads counts happens is has =
-    absurd (subst (Happens post held.emit (setting_in held.world.plant.net) (world_after (setting_in held.world.plant.net) has.0) e number new text) is (happens (world_after (setting_in held.world.plant.net) has.0) has.1.stands))
+    absurd
+    (subst (Happens post held.emit (setting_in held.world.plant.net) (world_after (setting_in held.world.plant.net) has.0) e number new text) is (happens (world_after (setting_in held.world.plant.net) has.0) has.1.stands))
 refused_so {post = post} held new lines line text e number answer refusals.Broken reads counts happens is has =
     refuses_broken {post = post} held lines line text e number reads counts
     (λ w stood. subst (Happens post held.emit (setting_in held.world.plant.net) w e number new text) is (happens w stood)) has
 
-pub trace_so : (emit : Option ℕ) (net : Network) (lines : List (List ℕ)) (line old text : List ℕ) (fault : TraceFault) (number : ℕ) (answer : Taken) (refusal : Refusal) → RefusesLine fault number old text answer → old ≡ []
-    → IsReading (event_read net.cfg line) (Err fault) → answer ≡ taken.Refused refusal → number ≡ length lines + 1 → (meaning_for emit (setting_in net)).refuses lines line refusal text
+pub trace_so : (emit : Option ℕ) (net : Network) (lines : List (List ℕ)) (line old text : List ℕ) (fault : TraceFault) (number : ℕ) (answer : Taken)
+    (refusal : Refusal)
+    → RefusesLine fault number old text answer → old ≡ []
+    → IsReading (event_read net.cfg line) (Err fault) → answer ≡ taken.Refused refusal → number ≡ length lines + 1
+    → (meaning_for emit (setting_in net)).refuses lines line refusal text
 trace_so emit net lines line old text fault number answer refusal refuses none reads is counts =
     let told = refused_line fault number (length lines + 1) old text answer refusal refuses is none counts in
     subst (λ (r : Refusal). (meaning_for emit (setting_in net)).refuses lines line r text) told.0
@@ -281,10 +319,12 @@ trace_so emit net lines line old text fault number answer refusal refuses none r
 -- At the end
 
 pub closes_counts : {F : Type 0} {post : F → ℤ → ℤ → Type 0} (held : AuditedNetwork F) (lines : List (List ℕ)) (text old : List ℕ) → held.emit ≡ None → old ≡ []
-    → ((s : Setting) (w : WorldAt) → StandsFor post s w held.world → text ≡ old ++ all_counts s w) → HasAudited post held lines → (meaning_for held.emit (setting_in held.world.plant.net)).closes lines text
+    → ((s : Setting) (w : WorldAt) → StandsFor post s w held.world → text ≡ old ++ all_counts s w) → HasAudited post held lines
+    → (meaning_for held.emit (setting_in held.world.plant.net)).closes lines text
 closes_counts held lines text old is none counts has =
     let s : Setting = setting_in held.world.plant.net in
     subst (λ (e : Option ℕ). (meaning_for e s).closes lines text) (sym is) (has.0, has.1.audit, behind_none (counts s (world_after s has.0) has.1.stands) none)
 
-pub closes_none : {F : Type 0} (held : AuditedNetwork F) (lines : List (List ℕ)) (text : List ℕ) (n : ℕ) → held.emit ≡ Some n → text ≡ [] → (meaning_for held.emit (setting_in held.world.plant.net)).closes lines text
+pub closes_none : {F : Type 0} (held : AuditedNetwork F) (lines : List (List ℕ)) (text : List ℕ) (n : ℕ) → held.emit ≡ Some n → text ≡ []
+    → (meaning_for held.emit (setting_in held.world.plant.net)).closes lines text
 closes_none held lines text n is none = subst (λ (e : Option ℕ). (meaning_for e (setting_in held.world.plant.net)).closes lines text) (sym is) none

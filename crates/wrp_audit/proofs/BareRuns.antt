@@ -26,8 +26,10 @@ use Rattle.wrp_network_world.proofs.Leads.{due_so}
 
 -- The run
 
-tried_after : (s : Setting) (before : List Happened) (h : Happened) → checks_of (bare_setting s) (world_after (bare_setting s) before) h.says h.event ≡ checks_of s (world_after s before) h.says h.event
-tried_after s before h = ap (λ (w : WorldAt). checks_of (bare_setting s) w h.says h.event) (after_bare s before) ∙ checks_bare s (world_after s before) h.says h.event
+tried_after : (s : Setting) (before : List Happened) (h : Happened)
+    → checks_of (bare_setting s) (world_after (bare_setting s) before) h.says h.event ≡ checks_of s (world_after s before) h.says h.event
+tried_after s before h =
+    ap (λ (w : WorldAt). checks_of (bare_setting s) w h.says h.event) (after_bare s before) ∙ checks_bare s (world_after s before) h.says h.event
 
 accepted_bare : (s : Setting) (events : List Happened) → AllAccepted s events → AllAccepted (bare_setting s) events
 accepted_bare s [] all = tt
@@ -53,12 +55,14 @@ run_bare s lines events audit = record {
 
 pub steps_text : (s : Setting) → step_lines (bare_setting s) ≡ step_lines s
 steps_text s = λ i w step.
-    flat_map (λ o. output_line_of (name_bare s.cfg step.node i) (w.node step.node).ticks o (pos (path_bare s.cfg step.node i)) (Some (w.clock step.node).off)) step.outs
+    flat_map
+    (λ o. output_line_of (name_bare s.cfg step.node i) (w.node step.node).ticks o (pos (path_bare s.cfg step.node i)) (Some (w.clock step.node).off)) step.outs
 
 pub lines_text : (s : Setting) (events : List Happened) → audit_lines (bare_setting s) events ≡ audit_lines s events
 lines_text s [] = refl
 lines_text s (h ∷ before) =
-    ap₂ (λ (earlier lines : List ℕ). earlier ++ lines) (lines_text s before) (λ i. flat_map (steps_text s i (after_bare s (h ∷ before) i)) (steps_at_bare s before h i))
+    ap₂ (λ (earlier lines : List ℕ). earlier ++ lines) (lines_text s before)
+    (λ i. flat_map (steps_text s i (after_bare s (h ∷ before) i)) (steps_at_bare s before h i))
 
 given_text : (s : Setting) (n : ℕ) → given_line (bare_setting s) n ≡ given_line s n
 given_text s n = λ i step. if step.node == n then line_bare (line_setting_in s n) step.input i ++ 10 ∷ [] else []
@@ -68,7 +72,8 @@ inputs_text s n [] = refl
 inputs_text s n (h ∷ before) =
     ap₂ (λ (earlier lines : List ℕ). earlier ++ lines) (inputs_text s n before) (λ i. flat_map (given_text s n i) (steps_at_bare s before h i))
 
-refused_bare : (s : Setting) (lines : List (List ℕ)) (line last : List ℕ) (refusal : Refusal) → AuditRefuses s lines line refusal last → AuditRefuses (bare_setting s) lines line refusal last
+refused_bare : (s : Setting) (lines : List (List ℕ)) (line last : List ℕ) (refusal : Refusal) → AuditRefuses s lines line refusal last
+    → AuditRefuses (bare_setting s) lines line refusal last
 refused_bare s lines line last refusals.BadTrace h = (h.0, event_bare s.cfg line ∙ h.1, h.2)
 refused_bare s lines line last refusals.Broken h = record {
   events = h.events;
@@ -78,13 +83,17 @@ refused_bare s lines line last refusals.Broken h = record {
   says = h.says;
   said = h.said;
   breach = h.breach;
-  told = ap told_of (ap (λ (w : WorldAt). checks_of (bare_setting s) w h.says h.event) (after_bare s h.events) ∙ checks_bare s (world_after s h.events) h.says h.event) ∙ h.told;
+  told =
+      ap told_of
+      (ap (λ (w : WorldAt). checks_of (bare_setting s) w h.says h.event) (after_bare s h.events) ∙ checks_bare s (world_after s h.events) h.says h.event)
+      ∙ h.told;
   is = h.is;
 }
 
 -- What is due
 
-pub bare_answer : (s : Setting) (lines : List (List ℕ)) (status : Status) (octets : List ℕ) → RecordsAnswer (audit_of s) lines status octets → RecordsAnswer (audit_of (bare_setting s)) lines status octets
+pub bare_answer : (s : Setting) (lines : List (List ℕ)) (status : Status) (octets : List ℕ) → RecordsAnswer (audit_of s) lines status octets
+    → RecordsAnswer (audit_of (bare_setting s)) lines status octets
 bare_answer s = due_so (audit_of s) (audit_of (bare_setting s)) (record {
   accepts = λ lines text h. (h.0, run_bare s lines h.0 h.1, h.2 ∙ sym (lines_text s h.0));
   refuses = refused_bare s;
@@ -92,7 +101,8 @@ bare_answer s = due_so (audit_of s) (audit_of (bare_setting s)) (record {
   breaks_off = λ lines status last h. h;
 })
 
-pub bare_emission : (s : Setting) (n : ℕ) (lines : List (List ℕ)) (status : Status) (octets : List ℕ) → RecordsAnswer (emission_of s n) lines status octets → RecordsAnswer (emission_of (bare_setting s) n) lines status octets
+pub bare_emission : (s : Setting) (n : ℕ) (lines : List (List ℕ)) (status : Status) (octets : List ℕ) → RecordsAnswer (emission_of s n) lines status octets
+    → RecordsAnswer (emission_of (bare_setting s) n) lines status octets
 bare_emission s n = due_so (emission_of s n) (emission_of (bare_setting s) n) (record {
   accepts = λ lines text h. (h.0, run_bare s lines h.0 h.1, h.2 ∙ sym (inputs_text s n h.0));
   refuses = refused_bare s;

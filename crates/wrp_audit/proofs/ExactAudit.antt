@@ -42,7 +42,8 @@ all_before : (s : Setting) (y : ℤ) (gs : List Given) (v : WorldAt) (n : ℕ) �
 all_before s y [] v n said = said
 all_before s y (g ∷ gs) v n said = one_before (n == g.to) (taken_of y g) (v.inputs n) (all_before s y gs (gives s y v g) n said)
 
-heard_before : (s : Setting) (h : Happened) (before : List Happened) (n : ℕ) → AllSaid ((world_after s (h ∷ before)).inputs n) → AllSaid ((world_after s before).inputs n)
+heard_before : (s : Setting) (h : Happened) (before : List Happened) (n : ℕ) → AllSaid ((world_after s (h ∷ before)).inputs n)
+    → AllSaid ((world_after s before).inputs n)
 heard_before s h before n said =
     let w : WorldAt = world_after s before in
     all_before s h.answer (given_by s w (moved s w h.event) h.says h.event) (moved s w h.event) n said
@@ -58,7 +59,8 @@ record Newest (s : Setting) (lines : List (List ℕ)) (line : List ℕ) (events 
   accepted : Accepts s (world_after s before) newest.says newest.event
 
 newest_of : (s : Setting) (lines : List (List ℕ)) (line : List ℕ) (events : List Happened) → IsAudit s (lines ++ line ∷ []) events → Newest s lines line events
-newest_of s lines line [] audit = absurd (none_ends (map (event_read s.cfg) lines) (event_read s.cfg line) (sym (map-append (event_read s.cfg) lines (line ∷ [])) ∙ audit.are))
+newest_of s lines line [] audit =
+    absurd (none_ends (map (event_read s.cfg) lines) (event_read s.cfg line) (sym (map-append (event_read s.cfg) lines (line ∷ [])) ∙ audit.are))
 newest_of s lines line (h ∷ before) audit =
     let ends = same_from_push (map (event_read s.cfg) lines) (map read (reverse before)) (event_read s.cfg line) (read h)
     (sym (map-append (event_read s.cfg) lines (line ∷ [])) ∙ audit.are ∙ turned h before) in
@@ -77,12 +79,14 @@ newest_of s lines line (h ∷ before) audit =
     }
 
 -- the first lines of a run are a run
-first_lines : (s : Setting) (front back : List (List ℕ)) (events : List Happened) → IsAudit s (front ++ reverse back) events → (older : List Happened) × IsAudit s front older
+first_lines : (s : Setting) (front back : List (List ℕ)) (events : List Happened) → IsAudit s (front ++ reverse back) events
+    → (older : List Happened) × IsAudit s front older
 first_lines s front [] events audit = (events, subst (λ (ls : List (List ℕ)). IsAudit s ls events) (append-nil front) audit)
 first_lines s front (line ∷ back) events audit =
     let split : front ++ reverse (line ∷ back) ≡ (front ++ reverse back) ++ line ∷ [] =
     ap (λ (ls : List (List ℕ)). front ++ ls) (reverse-append (line ∷ []) back) ∙ sym (append_assoc front (reverse back) (line ∷ [])) in
-    let n : Newest s (front ++ reverse back) line events = newest_of s (front ++ reverse back) line events (subst (λ (ls : List (List ℕ)). IsAudit s ls events) split audit) in
+    let n : Newest s (front ++ reverse back) line events =
+    newest_of s (front ++ reverse back) line events (subst (λ (ls : List (List ℕ)). IsAudit s ls events) split audit) in
     first_lines s front back n.before n.audit
 
 -- a line among those of a run
@@ -102,7 +106,8 @@ none_told (check ∷ checks) all =
     ap (λ (b : Bool). option_map breach_of (cond b (Some check) (first_broken checks))) all.0 ∙ none_told checks all.1
 
 -- a line of a run is not refused
-never_refused : OneAudit → (s : Setting) (before behind : List (List ℕ)) (line last : List ℕ) (events : List Happened) (refusal : Refusal) → IsAudit s (before ++ line ∷ behind) events → AuditRefuses s before line refusal last → ⊥
+never_refused : OneAudit → (s : Setting) (before behind : List (List ℕ)) (line last : List ℕ) (events : List Happened) (refusal : Refusal)
+    → IsAudit s (before ++ line ∷ behind) events → AuditRefuses s before line refusal last → ⊥
 never_refused one s before behind line last events refusals.BadTrace audit refused =
     let older = among s before behind line events audit in
     let n : Newest s before line older.0 = newest_of s before line older.0 older.1 in
@@ -114,13 +119,16 @@ never_refused one s before behind line last events refusals.Broken audit refused
     let both : Ok n.newest.event ≡ Ok refused.event = sym n.reads ∙ refused.reads in
     let same : n.newest.event ≡ refused.event = cc in
     let tried : checks_of s (world_after s n.before) n.newest.says refused.event ≡ checks_of s (world_after s refused.events) refused.says refused.event =
-    (one s before n.before refused.events n.audit refused.audit).tried refused.event n.newest.says refused.says (subst (λ (e : Event). IsSaid e n.newest.says) same n.said) refused.said in
+    (one s before n.before refused.events n.audit refused.audit).tried refused.event n.newest.says refused.says
+    (subst (λ (e : Event). IsSaid e n.newest.says) same n.said) refused.said in
     let none : told_of (checks_of s (world_after s n.before) n.newest.says refused.event) ≡ None =
-    none_told (checks_of s (world_after s n.before) n.newest.says refused.event) (subst (λ (e : Event). Accepts s (world_after s n.before) n.newest.says e) same n.accepted) in
+    none_told (checks_of s (world_after s n.before) n.newest.says refused.event)
+    (subst (λ (e : Event). Accepts s (world_after s n.before) n.newest.says e) same n.accepted) in
     let some : None ≡ Some refused.breach = sym none ∙ ap told_of tried ∙ refused.told in
     cc
 
-one_refused : OneAudit → (s : Setting) (before : List (List ℕ)) (line t u : List ℕ) (a b : Refusal) → AuditRefuses s before line a t → AuditRefuses s before line b u → (a ≡ b) × (t ≡ u)
+one_refused : OneAudit → (s : Setting) (before : List (List ℕ)) (line t u : List ℕ) (a b : Refusal) → AuditRefuses s before line a t
+    → AuditRefuses s before line b u → (a ≡ b) × (t ≡ u)
 one_refused one s before line t u refusals.BadTrace refusals.BadTrace p q =
     let both : Err p.0 ≡ Err q.0 = sym p.1 ∙ q.1 in
     let fault : p.0 ≡ q.0 = cc in

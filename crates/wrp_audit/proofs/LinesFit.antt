@@ -39,7 +39,8 @@ few_are octets found e =
     let parts : (nat_le (length octets) 256 ≡ true) × (octets ≡ found) = some_if (nat_le (length octets) 256) octets found e in
     (parts.1, subst (λ (l : List ℕ). length l ≤ 256) parts.1 (leb-true (length octets) 256 parts.0))
 
-octets_in : (text octets : List ℕ) (read : Result (List ℕ) FromHexError) → decode_of text ≡ read → option_and_then few (result_ok read) ≡ Some octets → AreOctets octets × (length octets ≤ 256)
+octets_in : (text octets : List ℕ) (read : Result (List ℕ) FromHexError) → decode_of text ≡ read → option_and_then few (result_ok read) ≡ Some octets
+    → AreOctets octets × (length octets ≤ 256)
 octets_in text octets (Err fault) is e = absurd (let f : None ≡ Some octets = e in cc)
 octets_in text octets (Ok decoded) is e =
     let parts : (decoded ≡ octets) × (length octets ≤ 256) = few_are decoded octets e in
@@ -54,7 +55,8 @@ frame_in (Some octets) frame e = ap (option_map (λ (a : ArrayVec ℕ). a.items)
 
 frame_fits : (place : ℕ) (fields : List (List ℕ)) (frame : ArrayVec ℕ) → octets_at place fields ≡ Ok frame → AreOctets frame.items × (length frame.items ≤ 256)
 frame_fits place fields frame e =
-    octets_fit (field_of place fields) frame.items (frame_in (octets_of (field_of place fields)) frame (found (Number place) (frame_of (field_of place fields)) frame e))
+    octets_fit (field_of place fields) frame.items
+    (frame_in (octets_of (field_of place fields)) frame (found (Number place) (frame_of (field_of place fields)) frame e))
 
 -- Bits
 
@@ -63,12 +65,14 @@ eight_are octets bits are e =
     let is : big_number 8 octets ≡ bits = (some_if (length octets == 8) (big_number 8 octets) bits e).1 in
     subst (λ (n : ℕ). n < 2 ^ 64) is (big_from-lt 0 8 octets are)
 
-bits_in : (text : List ℕ) (bits : ℕ) (o : Option (List ℕ)) → octets_of text ≡ o → option_and_then (λ (octets : List ℕ). if length octets == 8 then Some (big_number 8 octets) else None) o ≡ Some bits → bits < 2 ^ 64
+bits_in : (text : List ℕ) (bits : ℕ) (o : Option (List ℕ)) → octets_of text ≡ o
+    → option_and_then (λ (octets : List ℕ). if length octets == 8 then Some (big_number 8 octets) else None) o ≡ Some bits → bits < 2 ^ 64
 bits_in text bits None is e = absurd (let f : None ≡ Some bits = e in cc)
 bits_in text bits (Some octets) is e = eight_are octets bits (octets_fit text octets is).0 e
 
 bits_fit : (place : ℕ) (fields : List (List ℕ)) (bits : ℕ) → bits_at place fields ≡ Ok bits → bits < 2 ^ 64
-bits_fit place fields bits e = bits_in (field_of place fields) bits (octets_of (field_of place fields)) refl (found (Number place) (bits_of (field_of place fields)) bits e)
+bits_fit place fields bits e =
+    bits_in (field_of place fields) bits (octets_of (field_of place fields)) refl (found (Number place) (bits_of (field_of place fields)) bits e)
 
 -- Numbers
 
@@ -91,7 +95,8 @@ swaps_count place swaps all (text ∷ texts) e =
     let more : length all ≡ length (swaps ++ it.first ∷ []) + length texts = swaps_count (place + 1) (swaps ++ it.first ∷ []) all texts it.rest in
     omega (arith, more, one_more swaps it.first)
 
-few_swaps : (fields : List (List ℕ)) (swaps : List Swap) → (nat_le 3 (length fields) && nat_le (length fields) 21) ≡ true → swaps_said 4 [] (drop 3 fields) ≡ Ok swaps → length swaps ≤ 18
+few_swaps : (fields : List (List ℕ)) (swaps : List Swap) → (nat_le 3 (length fields) && nat_le (length fields) 21) ≡ true
+    → swaps_said 4 [] (drop 3 fields) ≡ Ok swaps → length swaps ≤ 18
 few_swaps fields swaps has e =
     let most : length fields ≤ 21 = leb-true (length fields) 21 (and_parts (nat_le 3 (length fields)) (nat_le (length fields) 21) has).1 in
     let count : length swaps ≡ length {A = Swap} [] + length (drop 3 fields) = swaps_count 4 [] swaps (drop 3 fields) e in
@@ -138,8 +143,11 @@ deliver_fits fields e h =
 
 noise_fits : (cfg : NetCfg) (fields : List (List ℕ)) (e : Event) → noise_of cfg fields ≡ Ok e → FitsEvent e
 noise_fits cfg fields e h =
-    let a = both (node_at cfg 2 fields) (λ node. u16_at 3 fields >>= (λ port. octets_at 4 fields >>= (λ octets. raw_from 5 fields >>= (λ raw. Ok (events.Noise node port octets raw))))) e h in
-    let b = both (u16_at 3 fields) (λ port. octets_at 4 fields >>= (λ octets. raw_from 5 fields >>= (λ raw. Ok (events.Noise a.first port octets raw)))) e a.rest in
+    let a =
+    both (node_at cfg 2 fields)
+    (λ node. u16_at 3 fields >>= (λ port. octets_at 4 fields >>= (λ octets. raw_from 5 fields >>= (λ raw. Ok (events.Noise node port octets raw))))) e h in
+    let b =
+    both (u16_at 3 fields) (λ port. octets_at 4 fields >>= (λ octets. raw_from 5 fields >>= (λ raw. Ok (events.Noise a.first port octets raw)))) e a.rest in
     let d = both (octets_at 4 fields) (λ octets. raw_from 5 fields >>= (λ raw. Ok (events.Noise a.first b.first octets raw))) e b.rest in
     let f = both (raw_from 5 fields) (λ raw. Ok (events.Noise a.first b.first d.first raw)) e d.rest in
     subst FitsEvent (ok_same (events.Noise a.first b.first d.first f.first) e f.rest) (short_fits 3 fields b.first b.is, frame_fits 4 fields d.first d.is)
@@ -169,7 +177,8 @@ join_fits cfg fields e h =
     let d = both (delay_at 4 fields) (λ sm. Ok (events.Join a.first b.first sm)) e b.rest in
     subst FitsEvent (ok_same (events.Join a.first b.first d.first) e d.rest) tt
 
-kind_fits : (cfg : NetCfg) (kind : EventKind) (fields : List (List ℕ)) (e : Event) → may_have kind (length fields) ≡ true → fields_of_kind cfg kind fields ≡ Ok e → FitsEvent e
+kind_fits : (cfg : NetCfg) (kind : EventKind) (fields : List (List ℕ)) (e : Event) → may_have kind (length fields) ≡ true
+    → fields_of_kind cfg kind fields ≡ Ok e → FitsEvent e
 kind_fits cfg kinds.Pass fields e has h = pass_fits cfg fields e h
 kind_fits cfg kinds.Tick fields e has h = tick_fits cfg fields e h
 kind_fits cfg kinds.Sample fields e has h = sample_fits cfg fields e h
@@ -185,7 +194,8 @@ kind_fits cfg kinds.Join fields e has h = join_fits cfg fields e h
 counted_fits : (cfg : NetCfg) (fields : List (List ℕ)) (o : Option EventKind) (e : Event) → counted_of cfg fields o ≡ Ok e → FitsEvent e
 counted_fits cfg fields None e h = absurd (let f : Err Kind ≡ Ok e = h in cc)
 counted_fits cfg fields (Some kind) e h =
-    let parts : (may_have kind (length fields) ≡ true) × (fields_of_kind cfg kind fields ≡ Ok e) = read_if (may_have kind (length fields)) Fields (fields_of_kind cfg kind fields) e h in
+    let parts : (may_have kind (length fields) ≡ true) × (fields_of_kind cfg kind fields ≡ Ok e) =
+    read_if (may_have kind (length fields)) Fields (fields_of_kind cfg kind fields) e h in
     kind_fits cfg kind fields e parts.0 parts.1
 
 -- an event that a line says

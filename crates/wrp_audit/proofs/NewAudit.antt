@@ -17,7 +17,8 @@ use Rattle.wrp_network_world.proofs.NewWorld.{laws_are, new_stands}
 
 -- Before the first record
 
-pub new_can : {F : Type 0} {pre : F → ℤ → Type 0} {post : F → ℤ → ℤ → Type 0} (net : Network) (laws : List (Option (LawOf F))) (held : AuditedNetwork F) → LawsFit pre post net laws → IsValid pre post held.world → HasLaws laws held.world
+pub new_can : {F : Type 0} {pre : F → ℤ → Type 0} {post : F → ℤ → ℤ → Type 0} (net : Network) (laws : List (Option (LawOf F))) (held : AuditedNetwork F)
+    → LawsFit pre post net laws → IsValid pre post held.world → HasLaws laws held.world
     → held.world.plant.net ≡ net → IfSome held.emit (λ n. n < node_count net.cfg) → AreBounds net.cfg held.bounds.items
     → CanAudit pre post held
 new_can {pre = pre} {post = post} net laws held fit valid has is emit bounds = record {
@@ -28,8 +29,10 @@ new_can {pre = pre} {post = post} net laws held fit valid has is emit bounds = r
   bounds = subst (λ (k : Network). AreBounds k.cfg held.bounds.items) (sym is) bounds;
 }
 
-pub new_has : {F : Type 0} {pre : F → ℤ → Type 0} {post : F → ℤ → ℤ → Type 0} (net : Network) (laws : List (Option (LawOf F))) (held : AuditedNetwork F) → LawsFit pre post net laws → IsTree net.cfg
-    → StandsFor post (setting_of net.cfg net.db laws) (new_world (setting_of net.cfg net.db laws)) held.world → held.world.plant.net ≡ net → HasAudited post held []
+pub new_has : {F : Type 0} {pre : F → ℤ → Type 0} {post : F → ℤ → ℤ → Type 0} (net : Network) (laws : List (Option (LawOf F))) (held : AuditedNetwork F)
+    → LawsFit pre post net laws → IsTree net.cfg
+    → StandsFor post (setting_of net.cfg net.db laws) (new_world (setting_of net.cfg net.db laws)) held.world → held.world.plant.net ≡ net
+    → HasAudited post held []
 new_has {pre = pre} {post = post} net laws held fit tree stands is =
     let own : StandsFor post (setting_in net) (new_world (setting_in net)) held.world = new_stands {pre = pre} {post = post} net laws held.world fit tree stands in (
       [],

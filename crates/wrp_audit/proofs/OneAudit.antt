@@ -29,14 +29,17 @@ turned h events = reverse-append (h ∷ []) events
 map_reverse : (events : List Happened) → map read (reverse events) ≡ reverse (map read events)
 map_reverse [] = refl
 map_reverse (h ∷ events) =
-    ap (map read) (turned h events) ∙ map-append read (reverse events) (h ∷ []) ∙ ap (λ (rs : List (Result Event TraceFault)). rs ++ read h ∷ []) (map_reverse events)
+    ap (map read) (turned h events) ∙ map-append read (reverse events) (h ∷ [])
+    ∙ ap (λ (rs : List (Result Event TraceFault)). rs ++ read h ∷ []) (map_reverse events)
     ∙ sym (reverse-append (read h ∷ []) (map read events))
 
 -- one line more
-pub one_line : (s : Setting) (lines : List (List ℕ)) (events : List Happened) (line : List ℕ) (h : Happened) → AreEvents s lines events → event_read s.cfg line ≡ Ok h.event
+pub one_line : (s : Setting) (lines : List (List ℕ)) (events : List Happened) (line : List ℕ) (h : Happened) → AreEvents s lines events
+    → event_read s.cfg line ≡ Ok h.event
     → AreEvents s (lines ++ line ∷ []) (h ∷ events)
 one_line s lines events line h are is =
-    map-append (event_read s.cfg) lines (line ∷ []) ∙ ap₂ (λ (a b : List (Result Event TraceFault)). a ++ b) are (ap (λ (r : Result Event TraceFault). r ∷ []) is)
+    map-append (event_read s.cfg) lines (line ∷ [])
+    ∙ ap₂ (λ (a b : List (Result Event TraceFault)). a ++ b) are (ap (λ (r : Result Event TraceFault). r ∷ []) is)
     ∙ sym (ap (map read) (turned h events) ∙ map-append read (reverse events) (h ∷ []))
 
 heads_same : (a b : List Happened) → map read a ≡ map read b → SameEvents a b
@@ -62,7 +65,8 @@ steps_written s v w steps h = ap (λ (k : WorldAt). flat_map (step_lines s k) st
 abbrev Answered : Setting → List Happened → Type 0
 Answered s events = IsAnswered (answers_in s) s (world_after s events)
 
-one_lines : ToldLast → (s : Setting) (a b : List Happened) → SameEvents a b → AllSaid a → AllSaid b → Answered s a → Answered s b → audit_lines s a ≡ audit_lines s b
+one_lines : ToldLast → (s : Setting) (a b : List Happened) → SameEvents a b → AllSaid a → AllSaid b → Answered s a → Answered s b
+    → audit_lines s a ≡ audit_lines s b
 one_lines last s [] [] same p q c d = refl
 one_lines last s [] (k ∷ b) same p q c d = absurd same
 one_lines last s (h ∷ a) [] same p q c d = absurd same
@@ -72,7 +76,8 @@ one_lines last s (h ∷ a) (k ∷ b) same p q c d =
     (steps_written s (world_after s (h ∷ a)) (world_after s (k ∷ b)) (steps_at s a h) (alike_after (laws_in s) last s (h ∷ a) (k ∷ b) same p q c d)
     ∙ ap (flat_map (step_lines s (world_after s (k ∷ b)))) (steps_after (laws_in s) last s a b h k same p q c d))
 
-one_given : ToldLast → (s : Setting) (n : ℕ) (a b : List Happened) → SameEvents a b → AllSaid a → AllSaid b → Answered s a → Answered s b → given_lines s n a ≡ given_lines s n b
+one_given : ToldLast → (s : Setting) (n : ℕ) (a b : List Happened) → SameEvents a b → AllSaid a → AllSaid b → Answered s a → Answered s b
+    → given_lines s n a ≡ given_lines s n b
 one_given last s n [] [] same p q c d = refl
 one_given last s n [] (k ∷ b) same p q c d = absurd same
 one_given last s n (h ∷ a) [] same p q c d = absurd same
@@ -84,7 +89,8 @@ one_given last s n (h ∷ a) (k ∷ b) same p q c d =
 pub one_audit : ToldLast → OneAudit
 one_audit last s lines events others p q =
     let same : SameEvents events others = same_events s lines events others p.are q.are in
-    let alike : Alike s (world_after s events) (world_after s others) = alike_after (laws_in s) last s events others same p.run.said q.run.said p.run.answered q.run.answered in
+    let alike : Alike s (world_after s events) (world_after s others) =
+    alike_after (laws_in s) last s events others same p.run.said q.run.said p.run.answered q.run.answered in
     record {
       lines = one_lines last s events others same p.run.said q.run.said p.run.answered q.run.answered;
       given = λ n. one_given last s n events others same p.run.said q.run.said p.run.answered q.run.answered;

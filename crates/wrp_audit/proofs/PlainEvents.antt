@@ -19,7 +19,8 @@ use Rattle.wrp_course.specs.WorldAt.{EndAt, WorldAt}
 
 -- The module that a swap puts in place
 
-found_if : (b : Bool) (swap : Swap) (rest other : Option Swap) → rest ≡ option_map bare_swap other → cond b (Some (bare_swap swap)) rest ≡ option_map bare_swap (cond b (Some swap) other)
+found_if : (b : Bool) (swap : Swap) (rest other : Option Swap) → rest ≡ option_map bare_swap other
+    → cond b (Some (bare_swap swap)) rest ≡ option_map bare_swap (cond b (Some swap) other)
 found_if true swap rest other e = refl
 found_if false swap rest other e = e
 
@@ -42,7 +43,8 @@ end_same s w n swaps k r =
 abbrev plain_up : (n : ℕ) (off : ℤ) → List Swap → Event
 plain_up n off swaps = Up n off (record { items = map bare_swap swaps })
 
-moved_up : (s : Setting) (w : WorldAt) (n : ℕ) (off : ℤ) (swaps : List Swap) → moved s w (plain_up n off swaps) ≡ moved s w (Up n off (record { items = swaps }))
+moved_up : (s : Setting) (w : WorldAt) (n : ℕ) (off : ℤ) (swaps : List Swap)
+    → moved s w (plain_up n off swaps) ≡ moved s w (Up n off (record { items = swaps }))
 moved_up s w n off swaps =
     ap (λ (ends : ℕ → Role → EndAt). record (moved s w (Up n off (record { items = swaps }))) { end_at = ends }) (λ i k r. end_same s w n swaps k r i)
 
@@ -57,7 +59,8 @@ same_world s says y w (Arrive i raw) = refl
 same_world s says y w (Deliver i) = refl
 same_world s says y w (Noise n p octets raw) = refl
 same_world s says y w (Down n) = refl
-same_world s says y w (Up n off swaps) = ap (λ (v : WorldAt). gives_all s y v (given_plain n Reset ∷ at_ports s v (comes_from s v) n)) (moved_up s w n off swaps.items)
+same_world s says y w (Up n off swaps) =
+    ap (λ (v : WorldAt). gives_all s y v (given_plain n Reset ∷ at_ports s v (comes_from s v) n)) (moved_up s w n off swaps.items)
 same_world s says y w (Cut k) = refl
 same_world s says y w (Join k ms sm) = refl
 
@@ -70,7 +73,8 @@ same_steps s says y w (Arrive i raw) = refl
 same_steps s says y w (Deliver i) = refl
 same_steps s says y w (Noise n p octets raw) = refl
 same_steps s says y w (Down n) = refl
-same_steps s says y w (Up n off swaps) = ap (λ (v : WorldAt). steps_of s y v (given_plain n Reset ∷ at_ports s v (comes_from s v) n)) (moved_up s w n off swaps.items)
+same_steps s says y w (Up n off swaps) =
+    ap (λ (v : WorldAt). steps_of s y v (given_plain n Reset ∷ at_ports s v (comes_from s v) n)) (moved_up s w n off swaps.items)
 same_steps s says y w (Cut k) = refl
 same_steps s says y w (Join k ms sm) = refl
 
@@ -84,7 +88,8 @@ module_checks_same : (s : Setting) (n : ℕ) (swaps : List Swap) → flat_map (m
 module_checks_same s n [] = refl
 module_checks_same s n (swap ∷ swaps) = ap (λ (rest : List Check). module_kept s n swap ++ rest) (module_checks_same s n swaps)
 
-up_same : (s : Setting) (w : WorldAt) (says : Result PtpMsg FrameFault) (n : ℕ) (off : ℤ) (swaps : List Swap) → checks_of s w says (plain_up n off swaps) ≡ checks_of s w says (Up n off (record { items = swaps }))
+up_same : (s : Setting) (w : WorldAt) (says : Result PtpMsg FrameFault) (n : ℕ) (off : ℤ) (swaps : List Swap)
+    → checks_of s w says (plain_up n off swaps) ≡ checks_of s w says (Up n off (record { items = swaps }))
 up_same s w says n off swaps =
     ap₂ (λ (v : WorldAt) (rest : List Check). true_at_top s n off ∷ (flat_map (fibre_kept s v) (links_of s) ++ rest)) (moved_up s w n off swaps)
     (ap₂ (λ (modules ports : List Check). modules ++ (ports ++ (needs (not (w.clock n).up) ∷ []))) (module_checks_same s n swaps) (swap_checks s n swaps))

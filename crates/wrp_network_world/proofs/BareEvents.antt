@@ -54,13 +54,16 @@ change_bare : (cfg : NetCfg) (place : ℕ) (said : SaidAt) (text : List ℕ) →
 change_bare cfg place said text =
     ap₂ (λ (n l : Option ℕ). named_said place said n l (behind 61 text)) (named_bare cfg (before 61 text)) (link_named_bare cfg (before 61 text))
 
-changes_bare : (cfg : NetCfg) (place : ℕ) (said : SaidAt) (texts : List (List ℕ)) → changes_said (bare_cfg cfg) place said texts ≡ changes_said cfg place said texts
+changes_bare : (cfg : NetCfg) (place : ℕ) (said : SaidAt) (texts : List (List ℕ))
+    → changes_said (bare_cfg cfg) place said texts ≡ changes_said cfg place said texts
 changes_bare cfg place said [] = refl
 changes_bare cfg place said (text ∷ texts) =
     ap (λ (r : Result SaidAt TraceFault). r >>= (λ more. changes_said (bare_cfg cfg) (place + 1) more texts)) (change_bare cfg place said text)
-    ∙ bind_same (change_said cfg place said text) (λ more. changes_said (bare_cfg cfg) (place + 1) more texts) (λ more. changes_said cfg (place + 1) more texts) (λ more. changes_bare cfg (place + 1) more texts)
+    ∙ bind_same (change_said cfg place said text) (λ more. changes_said (bare_cfg cfg) (place + 1) more texts) (λ more. changes_said cfg (place + 1) more texts)
+    (λ more. changes_bare cfg (place + 1) more texts)
 
-all_changes_bare : (cfg : NetCfg) (texts : List (List ℕ)) → changes_said (bare_cfg cfg) 3 (nothing_said (bare_cfg cfg)) texts ≡ changes_said cfg 3 (nothing_said cfg) texts
+all_changes_bare : (cfg : NetCfg) (texts : List (List ℕ))
+    → changes_said (bare_cfg cfg) 3 (nothing_said (bare_cfg cfg)) texts ≡ changes_said cfg 3 (nothing_said cfg) texts
 all_changes_bare cfg texts = ap (λ (said : SaidAt). changes_said (bare_cfg cfg) 3 said texts) (nothing_bare cfg) ∙ changes_bare cfg 3 (nothing_said cfg) texts
 
 -- A line

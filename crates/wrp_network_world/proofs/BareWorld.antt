@@ -74,7 +74,8 @@ entries_bare s = λ i k r name.
 place_over : (n p k : ℕ) (links : List LinkCfg) → place_among n p k (map bare_link links) ≡ place_among n p k links
 place_over n p k [] = refl
 place_over n p k (link ∷ links) =
-    ap (λ (rest : Option Place). if is_upper_end n p link then Some (record { link = k; role = Master }) else (if is_lower_end n p link then Some (record { link = k; role = Slave }) else rest))
+    ap
+    (λ (rest : Option Place). if is_upper_end n p link then Some (record { link = k; role = Master }) else (if is_lower_end n p link then Some (record { link = k; role = Slave }) else rest))
     (place_over n p (k + 1) links)
 
 pub places_bare : (s : Setting) → place_of (bare_setting s) ≡ place_of s
@@ -89,11 +90,13 @@ nodes_bare s = ap (λ (count : ℕ). from_on count 0) (length-map s.cfg.nodes.it
 pub links_bare : (s : Setting) → links_of (bare_setting s) ≡ links_of s
 links_bare s = ap (λ (count : ℕ). from_on count 0) (length-map s.cfg.links.items bare_link)
 
-number_over : (number : NodeCfg → ℕ) → ((node : NodeCfg) → number (bare_node node) ≡ number node) → (o : Option NodeCfg) → option_map_or number (option_map bare_node o) 0 ≡ option_map_or number o 0
+number_over : (number : NodeCfg → ℕ) → ((node : NodeCfg) → number (bare_node node) ≡ number node) → (o : Option NodeCfg)
+    → option_map_or number (option_map bare_node o) 0 ≡ option_map_or number o 0
 number_over number same None = refl
 number_over number same (Some node) = same node
 
-pub number_bare : (number : NodeCfg → ℕ) → ((node : NodeCfg) → number (bare_node node) ≡ number node) → (s : Setting) → of_node number (bare_setting s) ≡ of_node number s
+pub number_bare : (number : NodeCfg → ℕ) → ((node : NodeCfg) → number (bare_node node) ≡ number node) → (s : Setting)
+    → of_node number (bare_setting s) ≡ of_node number s
 number_bare number same s = λ i n.
     (ap (λ (o : Option NodeCfg). option_map_or number o 0) (slice_get-map bare_node s.cfg.nodes.items n) ∙ number_over number same (slice_get s.cfg.nodes.items n)) i
 
@@ -133,7 +136,8 @@ new_bare s = λ i. record (new_world s) { end_at = λ k r. new_end (names_bare s
 samples_bare : (s : Setting) (w : WorldAt) (f : FrameAt) → samples_at (bare_setting s) w f ≡ samples_at s w f
 samples_bare s w f = λ i. option_map_or (λ (end : End). (w.clock end.node).samples) (ends_bare s i f.link (other_of f.by)) 0
 
-arrived_bare : (s : Setting) (w : WorldAt) (j : ℕ) (raw : Raw) (g : Option FrameAt) (l : ℕ) (f : Option FrameAt) → arrived (bare_setting s) w j raw g l f ≡ arrived s w j raw g l f
+arrived_bare : (s : Setting) (w : WorldAt) (j : ℕ) (raw : Raw) (g : Option FrameAt) (l : ℕ) (f : Option FrameAt)
+    → arrived (bare_setting s) w j raw g l f ≡ arrived s w j raw g l f
 arrived_bare s w j raw None l f = refl
 arrived_bare s w j raw (Some g) l None = refl
 arrived_bare s w j raw (Some g) l (Some f) =
@@ -207,7 +211,8 @@ given_bare s w v says (Arrive j raw) = refl
 given_bare s w v says (Deliver j) = delivered_bare s (w.frame j)
 given_bare s w v says (Noise n p octets raw) = refl
 given_bare s w v says (Down n) = ports_bare s w (goes_from (bare_setting s)) (goes_from s) (goes_bare s) n
-given_bare s w v says (Up n off swaps) = ap (λ (gs : List Given). given_plain n Reset ∷ gs) (ports_bare s v (comes_from (bare_setting s) v) (comes_from s v) (λ i. comes_bare s i v) n)
+given_bare s w v says (Up n off swaps) =
+    ap (λ (gs : List Given). given_plain n Reset ∷ gs) (ports_bare s v (comes_from (bare_setting s) v) (comes_from s v) (λ i. comes_bare s i v) n)
 given_bare s w v says (Cut k) = λ i. if carriers_bare s i w k then goes_bare s i k Master else []
 given_bare s w v says (Join k ms sm) = λ i. if carriers_bare s i v k then comes_bare s i v k Master else []
 
@@ -231,13 +236,15 @@ steps_bare s y v (g ∷ gs) =
     ap (λ (steps : List NodeStepAt). node_step_of s y v g ∷ steps)
     (ap (λ (w : WorldAt). steps_of (bare_setting s) y w gs) (gives_bare s y v g) ∙ steps_bare s y (gives s y v g) gs)
 
-pub world_bare : (s : Setting) (says : Result PtpMsg FrameFault) (y : ℤ) (w : WorldAt) (e : Event) → world_step (bare_setting s) says y w e ≡ world_step s says y w e
+pub world_bare : (s : Setting) (says : Result PtpMsg FrameFault) (y : ℤ) (w : WorldAt) (e : Event)
+    → world_step (bare_setting s) says y w e ≡ world_step s says y w e
 world_bare s says y w e =
     all_bare s y (moved (bare_setting s) w e) (given_by (bare_setting s) w (moved (bare_setting s) w e) says e)
     ∙ ap₂ (λ (v : WorldAt) (gs : List Given). gives_all s y v gs) (moved_bare s w e)
     (given_bare s w (moved (bare_setting s) w e) says e ∙ ap (λ (v : WorldAt). given_by s w v says e) (moved_bare s w e))
 
-pub event_bare : (s : Setting) (says : Result PtpMsg FrameFault) (y : ℤ) (w : WorldAt) (e : Event) → event_steps (bare_setting s) says y w e ≡ event_steps s says y w e
+pub event_bare : (s : Setting) (says : Result PtpMsg FrameFault) (y : ℤ) (w : WorldAt) (e : Event)
+    → event_steps (bare_setting s) says y w e ≡ event_steps s says y w e
 event_bare s says y w e =
     steps_bare s y (moved (bare_setting s) w e) (given_by (bare_setting s) w (moved (bare_setting s) w e) says e)
     ∙ ap₂ (λ (v : WorldAt) (gs : List Given). steps_of s y v gs) (moved_bare s w e)
@@ -246,11 +253,13 @@ event_bare s says y w e =
 pub after_bare : (s : Setting) (events : List Happened) → world_after (bare_setting s) events ≡ world_after s events
 after_bare s [] = new_bare s
 after_bare s (h ∷ before) =
-    ap (λ (w : WorldAt). world_step (bare_setting s) h.says h.answer w h.event) (after_bare s before) ∙ world_bare s h.says h.answer (world_after s before) h.event
+    ap (λ (w : WorldAt). world_step (bare_setting s) h.says h.answer w h.event) (after_bare s before)
+    ∙ world_bare s h.says h.answer (world_after s before) h.event
 
 pub steps_at_bare : (s : Setting) (before : List Happened) (h : Happened) → steps_at (bare_setting s) before h ≡ steps_at s before h
 steps_at_bare s before h =
-    ap (λ (w : WorldAt). event_steps (bare_setting s) h.says h.answer w h.event) (after_bare s before) ∙ event_bare s h.says h.answer (world_after s before) h.event
+    ap (λ (w : WorldAt). event_steps (bare_setting s) h.says h.answer w h.event) (after_bare s before)
+    ∙ event_bare s h.says h.answer (world_after s before) h.event
 
 -- Premises
 
@@ -285,7 +294,8 @@ modules_bare s n = λ i swap.
 swaps_bare : (s : Setting) (n : ℕ) → swap_stands (bare_setting s) n ≡ swap_stands s n
 swaps_bare s n = λ i swap. needs (is_some (places_bare s i n swap.port))
 
-pass_bare : (s : Setting) (w v : WorldAt) (dt : ℤ) (drifts : List ℤ) (moves : List (ℤ × ℤ)) → pass_checks (bare_setting s) w v dt drifts moves ≡ pass_checks s w v dt drifts moves
+pass_bare : (s : Setting) (w v : WorldAt) (dt : ℤ) (drifts : List ℤ) (moves : List (ℤ × ℤ))
+    → pass_checks (bare_setting s) w v dt drifts moves ≡ pass_checks s w v dt drifts moves
 pass_bare s w v dt drifts moves = λ i.
     map (tick_late s w dt) (nodes_bare s i)
     ++ (flat_map (λ n. rate_checks (drift_of drifts n) dt (rates_bare s i w n)) (nodes_bare s i)
@@ -304,7 +314,8 @@ sample_bare s w n base bits (Some k) = λ i.
     ((ap (λ (o : Option LinkCfg). option_map_or (beat_checks (bare_setting s) w n base bits k) o []) (link_bare s k) ∙ beats_over s w n base bits k (link_of s k)) i)
     ++ (needs (carriers_bare s i w k) ∷ [])
 
-depart_bare : (s : Setting) (w : WorldAt) (n : ℕ) (stamp : ℤ) (o : Option Place) (waiting : List Sending) → depart_checks (bare_setting s) w n stamp o waiting ≡ depart_checks s w n stamp o waiting
+depart_bare : (s : Setting) (w : WorldAt) (n : ℕ) (stamp : ℤ) (o : Option Place) (waiting : List Sending)
+    → depart_checks (bare_setting s) w n stamp o waiting ≡ depart_checks s w n stamp o waiting
 depart_bare s w n stamp None waiting = refl
 depart_bare s w n stamp (Some place) [] = refl
 depart_bare s w n stamp (Some place) (oldest ∷ rest) = λ i.
@@ -319,8 +330,10 @@ received_bare s w f raw = λ i.
     (transition_of (entries_bare s i f.link (other_of f.by) (w.end_at f.link (other_of f.by)).name)) (reading w end.node) raw)
     (ends_bare s i f.link (other_of f.by)) []
 
-arrive_bare : (s : Setting) (w : WorldAt) (j : ℕ) (raw : Raw) (b : Bool) (o : Option FrameAt) → arrive_checks (bare_setting s) w j raw b o ≡ arrive_checks s w j raw b o
-arrive_bare s w j raw true (Some f) = λ i. at_most 8 (size_of (w.time -ℤ f.due)) (pos 0) ∷ (received_bare s w f raw i ++ (needs (carriers_bare s i w f.link) ∷ []))
+arrive_bare : (s : Setting) (w : WorldAt) (j : ℕ) (raw : Raw) (b : Bool) (o : Option FrameAt)
+    → arrive_checks (bare_setting s) w j raw b o ≡ arrive_checks s w j raw b o
+arrive_bare s w j raw true (Some f) =
+    λ i. at_most 8 (size_of (w.time -ℤ f.due)) (pos 0) ∷ (received_bare s w f raw i ++ (needs (carriers_bare s i w f.link) ∷ []))
 arrive_bare s w j raw true None = refl
 arrive_bare s w j raw false o = refl
 
@@ -332,7 +345,8 @@ deliver_bare s w j (Some f) = go f.arrival
     go None = refl
     go (Some arrival) = λ i. too_old s.cfg w.time f.sending ∷ (needs (carriers_bare s i w f.link) ∷ [])
 
-noise_bare : (s : Setting) (w : WorldAt) (n p : ℕ) (says : Result PtpMsg FrameFault) (o : Option Place) → noise_checks (bare_setting s) w n p says o ≡ noise_checks s w n p says o
+noise_bare : (s : Setting) (w : WorldAt) (n p : ℕ) (says : Result PtpMsg FrameFault) (o : Option Place)
+    → noise_checks (bare_setting s) w n p says o ≡ noise_checks s w n p says o
 noise_bare s w n p says None = refl
 noise_bare s w n p says (Some place) = λ i.
     record { premise = 12; fails = is_forged s n p says; shown = pos 1; bound = pos 0 } ∷ (needs (carriers_bare s i w place.link) ∷ [])
@@ -340,12 +354,15 @@ noise_bare s w n p says (Some place) = λ i.
 tried_bare : (s : Setting) (w v : WorldAt) (says : Result PtpMsg FrameFault) (e : Event) → checks (bare_setting s) w v says e ≡ checks s w v says e
 tried_bare s w v says (Pass dt drifts fibres) = pass_bare s w v dt drifts.items fibres.items
 tried_bare s w v says (Tick n) = refl
-tried_bare s w v says (Sample n base bits) = ap (sample_checks (bare_setting s) w n base bits) (λ i. aboves_bare s i n) ∙ sample_bare s w n base bits (above s n)
+tried_bare s w v says (Sample n base bits) =
+    ap (sample_checks (bare_setting s) w n base bits) (λ i. aboves_bare s i n) ∙ sample_bare s w n base bits (above s n)
 tried_bare s w v says (Depart n p stamp) =
-    ap (λ (o : Option Place). depart_checks (bare_setting s) w n stamp o (waiting_at w o)) (λ i. places_bare s i n p) ∙ depart_bare s w n stamp (place_of s n p) (waiting_at w (place_of s n p))
+    ap (λ (o : Option Place). depart_checks (bare_setting s) w n stamp o (waiting_at w o)) (λ i. places_bare s i n p)
+    ∙ depart_bare s w n stamp (place_of s n p) (waiting_at w (place_of s n p))
 tried_bare s w v says (Arrive j raw) = arrive_bare s w j raw (is_on_fibre (w.frame j)) (w.frame j)
 tried_bare s w v says (Deliver j) = deliver_bare s w j (w.frame j)
-tried_bare s w v says (Noise n p octets raw) = ap (noise_checks (bare_setting s) w n p says) (λ i. places_bare s i n p) ∙ noise_bare s w n p says (place_of s n p)
+tried_bare s w v says (Noise n p octets raw) =
+    ap (noise_checks (bare_setting s) w n p says) (λ i. places_bare s i n p) ∙ noise_bare s w n p says (place_of s n p)
 tried_bare s w v says (Down n) = refl
 tried_bare s w v says (Up n off swaps) = λ i.
     top_bare s n off i
@@ -371,11 +388,13 @@ bare_is cfg db = λ i. record {
 
 -- What is answered in a run, and its counters
 
-pub answered_bare : (s : Setting) (events : List Happened) → IsAnswered (answers_in s) s (world_after s events) → IsAnswered (answers_in (bare_setting s)) (bare_setting s) (world_after (bare_setting s) events)
+pub answered_bare : (s : Setting) (events : List Happened) → IsAnswered (answers_in s) s (world_after s events)
+    → IsAnswered (answers_in (bare_setting s)) (bare_setting s) (world_after (bare_setting s) events)
 answered_bare s events all n =
     let laws : law_at (line_setting_in s n) ≡ law_at (line_setting_in (bare_setting s) n) = sym (λ i x. law_bare (line_setting_in s n) x i) in
     subst (λ (w : WorldAt). AllAnswered (answers_in (bare_setting s) n) (servo_setting_of (node_setting_of s n)) (w.node n).calls) (sym (after_bare s events))
     (subst (λ (law : ℤ → ℤ). AllAnswered (answers_by law) (servo_setting_of (node_setting_of s n)) ((world_after s events).node n).calls) laws (all n))
 
-pub counts_text : (s : Setting) (events : List Happened) → all_counts (bare_setting s) (world_after (bare_setting s) events) ≡ all_counts s (world_after s events)
+pub counts_text : (s : Setting) (events : List Happened)
+    → all_counts (bare_setting s) (world_after (bare_setting s) events) ≡ all_counts s (world_after s events)
 counts_text s events = λ i. flat_map (λ n. counts_bare (line_setting_in s n) ((after_bare s events i).node n) i) (nodes_bare s i)

@@ -20,7 +20,8 @@ small_path bound path is less =
     omega (arith, ints, own)
 
 -- it stands at the node's place
-pub bound_at : (cfg : NetCfg) (bounds : List ℤ) (i n : ℕ) → AreBounds cfg bounds → n < node_count cfg → i ≡ n → to_z w128 (of_z w128 (get_or bounds i (pos 0))) ≡ pos (path_of cfg n)
+pub bound_at : (cfg : NetCfg) (bounds : List ℤ) (i n : ℕ) → AreBounds cfg bounds → n < node_count cfg → i ≡ n
+    → to_z w128 (of_z w128 (get_or bounds i (pos 0))) ≡ pos (path_of cfg n)
 bound_at cfg bounds i n all is same =
     let count = all.count in
     let within : i < length bounds = omega (arith, count, is, same) in

@@ -32,8 +32,11 @@ counts_bare site n =
 same_site : (s : Setting) (net : Network) (n : ℕ) → net.cfg ≡ s.cfg → net.db ≡ s.db → line_setting_of net n ≡ line_setting_in s n
 same_site s net n cfg db = ap₂ (λ (c : NetCfg) (d : Database). record { cfg = c; db = d; node = n }) cfg db
 
-pub counted_node : {F : Type 0} (post : F → ℤ → ℤ → Type 0) (s : Setting) (w : WorldAt) (world : WorldOf F) (net : Network) (n : ℕ) (node : NodeOf F) (text old : List ℕ) → StandsFor post s w world → net ≡ world.plant.net
-    → slice_get world.nodes n ≡ Some node → ((fixed : NodeSetting) (inputs : List Taken) → NodeStandsFor post fixed node inputs → text ≡ old ++ node_counts (bare_setting (line_setting_of net n)) (node_after fixed inputs))
+pub counted_node : {F : Type 0} (post : F → ℤ → ℤ → Type 0) (s : Setting) (w : WorldAt) (world : WorldOf F) (net : Network) (n : ℕ) (node : NodeOf F)
+    (text old : List ℕ)
+    → StandsFor post s w world → net ≡ world.plant.net
+    → slice_get world.nodes n ≡ Some node
+    → ((fixed : NodeSetting) (inputs : List Taken) → NodeStandsFor post fixed node inputs → text ≡ old ++ node_counts (bare_setting (line_setting_of net n)) (node_after fixed inputs))
     → text ≡ old ++ node_counts (line_setting_in s n) (w.node n)
 counted_node post s w world net n node text old stands own is counts =
     counts (node_setting_of s n) (w.inputs n) (stands.nodes n node is).stands
@@ -41,12 +44,14 @@ counted_node post s w world net n node text old stands own is counts =
     (counts_bare (line_setting_of net n) (node_after (node_setting_of s n) (w.inputs n))
     ∙ ap₂ node_counts (ap (λ (k : Network). line_setting_of k n) own ∙ same_site s world.plant.net n stands.plant.cfg stands.plant.db) (sym (stands.nodes n node is).at))
 
-pub owns_ports_of : {F : Type 0} (post : F → ℤ → ℤ → Type 0) (s : Setting) (w : WorldAt) (world : WorldOf F) (net : Network) (n : ℕ) (node : NodeOf F) → StandsFor post s w world → net ≡ world.plant.net
+pub owns_ports_of : {F : Type 0} (post : F → ℤ → ℤ → Type 0) (s : Setting) (w : WorldAt) (world : WorldOf F) (net : Network) (n : ℕ) (node : NodeOf F)
+    → StandsFor post s w world → net ≡ world.plant.net
     → slice_get world.nodes n ≡ Some node → OwnsPorts (bare_setting (line_setting_of net n)) node.parts.ports
 owns_ports_of post s w world net n node stands own is p has =
     let numbers : map (λ place. place.number) node.parts.ports ≡ numbers_of (set_of (bare_cfg net.cfg) n) =
     (stands.nodes n node is).stands.is_at.parts.numbers
-    ∙ ap numbers_of (stands.set n ∙ ap (λ (cfg : NetCfg). set_of cfg n) (sym stands.plant.cfg ∙ ap (λ (k : Network). k.cfg) (sym own)) ∙ sym (set_bare net.cfg n)) in
+    ∙ ap numbers_of
+    (stands.set n ∙ ap (λ (cfg : NetCfg). set_of cfg n) (sym stands.plant.cfg ∙ ap (λ (k : Network). k.cfg) (sym own)) ∙ sym (set_bare net.cfg n)) in
     ap (λ (ns : List ℕ). list_any (λ q. q == p) ns) numbers ∙ is_own (bare_setting (line_setting_of net n)) p has
 
 -- Those of the nodes from one on are lacking
@@ -63,7 +68,8 @@ all_nodes s w count old =
     let all : count - 0 ≡ count = omega arith in
     ap (λ (k : ℕ). old ++ flat_map (counts_at s w) (from_on k 0)) all
 
-pub node_less : (s : Setting) (w : WorldAt) (count node : ℕ) (text now old : List ℕ) → node < count → LacksNodes s w count node text old → now ≡ text ++ node_counts (line_setting_in s node) (w.node node)
+pub node_less : (s : Setting) (w : WorldAt) (count node : ℕ) (text now old : List ℕ) → node < count → LacksNodes s w count node text old
+    → now ≡ text ++ node_counts (line_setting_in s node) (w.node node)
     → LacksNodes s w count (node + 1) now old
 unfolding LacksNodes
 node_less s w count node text now old is h more =
@@ -72,7 +78,8 @@ node_less s w count node text now old is h more =
     ∙ append_assoc text (counts_at s w node) (flat_map (counts_at s w) (from_on (count - (node + 1)) (node + 1)))
     ∙ ap (λ (k : ℕ). text ++ flat_map (counts_at s w) (from_on k node)) (sym one) ∙ h
 
-pub no_node_less : (s : Setting) (w : WorldAt) (count node : ℕ) (text old : List ℕ) → count ≤ node → count ≡ node_count s.cfg → LacksNodes s w count node text old → text ≡ old ++ all_counts s w
+pub no_node_less : (s : Setting) (w : WorldAt) (count node : ℕ) (text old : List ℕ) → count ≤ node → count ≡ node_count s.cfg
+    → LacksNodes s w count node text old → text ≡ old ++ all_counts s w
 unfolding LacksNodes
 no_node_less s w count node text old is counted h =
     let none : count - node ≡ 0 = omega (arith, is) in

@@ -21,7 +21,8 @@ both (Ok x) next value e = record { first = x; is = refl; rest = e }
 both (Err fault) next value e = absurd (cc)
 
 -- what is read only where a test holds
-pub read_if : {A : Type 0} (b : Bool) (fault : TraceFault) (read : Result A TraceFault) (x : A) → (if b then read else Err fault) ≡ Ok x → (b ≡ true) × (read ≡ Ok x)
+pub read_if : {A : Type 0} (b : Bool) (fault : TraceFault) (read : Result A TraceFault) (x : A) → (if b then read else Err fault) ≡ Ok x
+    → (b ≡ true) × (read ≡ Ok x)
 read_if true fault read x e = (refl, e)
 read_if false fault read x e = absurd (let f : Err fault ≡ Ok x = e in cc)
 

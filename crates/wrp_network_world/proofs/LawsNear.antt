@@ -36,20 +36,23 @@ floor_near n =
     (floor_quotient-at_most n (pos (2 ^ 40)) (omega (arith, ints)))
     (floor_quotient-next n (pos (2 ^ 40)) (omega (arith, ints)))
 
-down_near : (table : Option TableAt) (kappa x : ℤ) → unsigned_abs kappa ≤ 2 ^ 38 → IfSome table (IsSoundTable kappa) → least_by table ≤ℤ x → x ≤ℤ greatest_by table →
+down_near : (table : Option TableAt) (kappa x : ℤ) → unsigned_abs kappa ≤ 2 ^ 38 → IfSome table (IsSoundTable kappa) → least_by table ≤ℤ x
+    → x ≤ℤ greatest_by table →
     IsNear (Linear kappa) (law_error table) x (down_by table kappa x)
 down_near None kappa x size sound low high = floor_near (x *ℤ (pos (2 ^ 39) +ℤ kappa))
 down_near (Some table) kappa x size sound low high =
     let least : 2 ≤ length table.points = sound.points.least in
     table_value-near kappa table.err table.points x size (omega (arith, least)) sound.points.rises low high sound.near
 
-table_sound : (cfg : NetCfg) (db : Database) (n : ℕ) (link : LinkCfg) (o : Option TableAt) → IsAccepted cfg db → link_above cfg n ≡ Some link → table_at db link.fibre.bytes ≡ o → IfSome o (IsSoundTable link.kappa)
+table_sound : (cfg : NetCfg) (db : Database) (n : ℕ) (link : LinkCfg) (o : Option TableAt) → IsAccepted cfg db → link_above cfg n ≡ Some link
+    → table_at db link.fibre.bytes ≡ o → IfSome o (IsSoundTable link.kappa)
 table_sound cfg db n link None accepted is has = tt
 table_sound cfg db n link (Some table) accepted is has = table_fits cfg db n link table accepted is has
 
 -- A node's law
 
-near_over : (cfg : NetCfg) (db : Database) (n : ℕ) (link : LinkCfg) (x : ℤ) → IsAccepted cfg db → link_above cfg n ≡ Some link → least_over db (Some link) ≤ℤ x → x ≤ℤ greatest_over db (Some link) →
+near_over : (cfg : NetCfg) (db : Database) (n : ℕ) (link : LinkCfg) (x : ℤ) → IsAccepted cfg db → link_above cfg n ≡ Some link → least_over db (Some link) ≤ℤ x
+    → x ≤ℤ greatest_over db (Some link) →
     IsNear (Linear link.kappa) link.law_err x (down_over db (Some link) x)
 near_over cfg db n link x accepted is low high =
     let at = above_is cfg n link is in
@@ -81,4 +84,5 @@ laws_near s cfg db accepted is = subst LawsAreNear (sym is) (laws_of cfg db acce
 
 pub answers_near : (s : Setting) (w : WorldAt) → LawsAreNear s → IsAnswered (answers_in s) s w → IsAnswered (IsNearAnswer s) s w
 answers_near s w near answered n =
-    near_calls (answers_in s n) (IsNearAnswer s n) (servo_setting_of (node_setting_of s n)) (λ a y low high is hop numbers. near n hop a y numbers low high is) (w.node n).calls (answered n)
+    near_calls (answers_in s n) (IsNearAnswer s n) (servo_setting_of (node_setting_of s n)) (λ a y low high is hop numbers. near n hop a y numbers low high is)
+    (w.node n).calls (answered n)

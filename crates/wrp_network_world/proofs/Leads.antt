@@ -19,7 +19,8 @@ pub record Leads (M N : LineMeaning) : Type 0 where
 handles_so : (M N : LineMeaning) → Leads M N → (lines : List (List ℕ)) (text : List ℕ) → Handles M.accepts lines text → Handles N.accepts lines text
 handles_so M N leads lines text h = record { sizes = h.sizes; count = h.count; accepted = leads.accepts (map content_of lines) text h.accepted }
 
-pub due_so : (M N : LineMeaning) → Leads M N → (lines : List (List ℕ)) (status : Status) (octets : List ℕ) → RecordsAnswer M lines status octets → RecordsAnswer N lines status octets
+pub due_so : (M N : LineMeaning) → Leads M N → (lines : List (List ℕ)) (status : Status) (octets : List ℕ) → RecordsAnswer M lines status octets
+    → RecordsAnswer N lines status octets
 due_so M N leads lines Done octets h = record {
   written = h.written;
   last = h.last;

@@ -37,7 +37,8 @@ IsMade s w = (n : ℕ) → w.node n ≡ node_after (node_setting_of s n) (w.inpu
 pub made_given : (s : Setting) (y : ℤ) (v : WorldAt) (g : Given) → IsMade s v → IsMade s (gives s y v g)
 made_given s y v g made n = go (n == g.to) refl
   where
-    go : (b : Bool) → (n == g.to) ≡ b → (if b then (step_of s y v g).node else v.node n) ≡ node_after (node_setting_of s n) (if b then taken_of y g ∷ v.inputs n else v.inputs n)
+    go : (b : Bool) → (n == g.to) ≡ b
+        → (if b then (step_of s y v g).node else v.node n) ≡ node_after (node_setting_of s n) (if b then taken_of y g ∷ v.inputs n else v.inputs n)
     go true is =
         let same : g.to ≡ n = grind (arith, is) in
         subst (λ (k : ℕ). (step_of s y v g).node ≡ node_after (node_setting_of s k) (taken_of y g ∷ v.inputs k)) same
@@ -51,7 +52,8 @@ made_all s y v (g ∷ gs) made = made_all s y (gives s y v g) gs (made_given s y
 pub made_after : (s : Setting) (events : List Happened) → IsMade s (world_after s events)
 made_after s [] = λ n. refl
 made_after s (h ∷ before) =
-    made_all s h.answer (moved s (world_after s before) h.event) (given_by s (world_after s before) (moved s (world_after s before) h.event) h.says h.event) (λ n. made_after s before n)
+    made_all s h.answer (moved s (world_after s before) h.event) (given_by s (world_after s before) (moved s (world_after s before) h.event) h.says h.event)
+    (λ n. made_after s before n)
 
 -- Measurements have the answers of the links' laws
 
@@ -79,8 +81,10 @@ below_count cfg n link tree is =
 none_slave : (cfg : NetCfg) (n : ℕ) → link_above cfg n ≡ None → is_some (slave_in (ports_of cfg n)) ≡ false
 none_slave cfg n is = ap is_some (slave_is_above cfg n ∙ ap (option_map (λ (l : LinkCfg). l.lower_port)) is)
 
-pub answered : {F : Type 0} {post : F → ℤ → ℤ → Type 0} (net : Network) (w : WorldAt) (world : WorldOf F) → IsTree net.cfg → length world.nodes ≡ node_count net.cfg
-    → StandsFor post (setting_in net) w world → HasLawOf post (setting_in net) world → IsMade (setting_in net) w → IsAnswered (answers_in (setting_in net)) (setting_in net) w
+pub answered : {F : Type 0} {post : F → ℤ → ℤ → Type 0} (net : Network) (w : WorldAt) (world : WorldOf F) → IsTree net.cfg
+    → length world.nodes ≡ node_count net.cfg
+    → StandsFor post (setting_in net) w world → HasLawOf post (setting_in net) world → IsMade (setting_in net) w
+    → IsAnswered (answers_in (setting_in net)) (setting_in net) w
 answered {F} {post = post} net w world tree counted stands laws made n = go (link_above net.cfg n) refl
   where
     s : Setting
@@ -88,17 +92,21 @@ answered {F} {post = post} net w world tree counted stands laws made n = go (lin
 
     go : (above : Option LinkCfg) → link_above net.cfg n ≡ above → AllAnswered (answers_in s n) (servo_setting_of (node_setting_of s n)) (w.node n).calls
     go None is =
-        let none : (w.node n).calls ≡ [] = ap (λ (node : NodeAt). node.calls) (made n) ∙ no_calls (node_setting_of s n) (w.inputs n) (none_slave net.cfg n is) in
+        let none : (w.node n).calls ≡ [] =
+        ap (λ (node : NodeAt). node.calls) (made n) ∙ no_calls (node_setting_of s n) (w.inputs n) (none_slave net.cfg n is) in
         subst (AllAnswered (answers_in s n) (servo_setting_of (node_setting_of s n))) (sym none) tt
     go (Some link) is =
         let below : n < node_count net.cfg = below_count net.cfg n link tree is in
         let item = has_item world.nodes n (omega (arith, below, counted)) in
-        let run = run_of {post = post} (law_at (line_setting_in s n)) (node_setting_of s n) item.0 (w.inputs n) (stands.nodes n item.0 item.1).stands (laws n item.0 item.1) in
+        let run =
+        run_of {post = post} (law_at (line_setting_in s n)) (node_setting_of s n) item.0 (w.inputs n) (stands.nodes n item.0 item.1).stands
+        (laws n item.0 item.1) in
         subst (λ (node : NodeAt). AllAnswered (answers_in s n) (servo_setting_of (node_setting_of s n)) node.calls) (sym (made n)) run.answered
 
 -- A step keeps the laws
 
-law_kept : {F : Type 0} (P : LawOf F → Type 0) (a : NodeOf F) (o : Option (NodeOf F)) → Some (law_in a.control) ≡ option_map (λ (node : NodeOf F). law_in node.control) o
+law_kept : {F : Type 0} (P : LawOf F → Type 0) (a : NodeOf F) (o : Option (NodeOf F))
+    → Some (law_in a.control) ≡ option_map (λ (node : NodeOf F). law_in node.control) o
     → ((b : NodeOf F) → o ≡ Some b → IfSome (law_in b.control) P) → IfSome (law_in a.control) P
 law_kept P a None same has = absurd (cc)
 law_kept P a (Some b) same has =
@@ -106,7 +114,8 @@ law_kept P a (Some b) same has =
     subst (λ (law : Option (LawOf _)). IfSome law P) (sym one) (has b refl)
 
 pub laws_stay : {F : Type 0} (post : F → ℤ → ℤ → Type 0) (s : Setting) (old new : WorldOf F)
-    → map (λ (node : NodeOf F). law_in node.control) new.nodes ≡ map (λ (node : NodeOf F). law_in node.control) old.nodes → HasLawOf post s old → HasLawOf post s new
+    → map (λ (node : NodeOf F). law_in node.control) new.nodes ≡ map (λ (node : NodeOf F). law_in node.control) old.nodes → HasLawOf post s old
+    → HasLawOf post s new
 laws_stay {F} post s old new same has n node is =
     let law : NodeOf F → Option (LawOf F) = λ node. law_in node.control in
     law_kept (AnswersBy post (law_at (line_setting_in s n))) node (slice_get old.nodes n)

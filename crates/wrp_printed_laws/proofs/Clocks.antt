@@ -75,7 +75,8 @@ IsHeld _ = Unit {0}
 
 cycles_back : (cycles : ℤ) → unsigned_abs cycles ≤ 2 ^ 62 → number_of (signed_decimal cycles) ≡ Some cycles
 cycles_back cycles held =
-    number_is cycles cycles (signed_decimal cycles) cycles (number_in_back cycles cycles cycles (omega (arith, ints)) (omega (arith, ints)) (omega (arith, held)))
+    number_is cycles cycles (signed_decimal cycles) cycles
+    (number_in_back cycles cycles cycles (omega (arith, ints)) (omega (arith, ints)) (omega (arith, held)))
 
 either_nothing : (b : Bool) → pos 0 ≡ own b (pos 0)
 either_nothing true = refl
@@ -87,7 +88,8 @@ own_number b o cycles e = ap (λ (x : Option ℤ). if b then unwrap_or x (pos 0)
 words_cycles : (node name : List ℕ) (tick : List ℕ) (o : Output) (bound : ℤ) (truth : Option ℤ) → IsHeld o →
     cycles_in node ((name ∷ tick ∷ output_words o bound truth) ++ [] ∷ []) ≡ own (same_name name node) (periods o)
 words_cycles node name tick (Send port frame) bound truth held = either_nothing (same_name name node)
-words_cycles node name tick (Step cycles) bound truth held = own_number (same_name name node) (number_of (signed_decimal cycles)) cycles (cycles_back cycles held)
+words_cycles node name tick (Step cycles) bound truth held =
+    own_number (same_name name node) (number_of (signed_decimal cycles)) cycles (cycles_back cycles held)
 words_cycles node name tick (Dac value) bound truth held = either_nothing (same_name name node)
 words_cycles node name tick (Report (Link port word)) bound truth held = either_nothing (same_name name node)
 words_cycles node name tick (Report (Servo state)) bound truth held = either_nothing (same_name name node)
@@ -96,7 +98,8 @@ words_cycles node name tick (Report (Track est)) bound truth held = either_nothi
 abbrev line_of_output : Setting → WorldAt → ℕ → Output → List ℕ
 line_of_output s w m o = output_line s.cfg m (w.node m).ticks o (Some (w.clock m).off)
 
-line_cycles : (s : Setting) (w : WorldAt) (m n : ℕ) (o : Output) → HasNames s.cfg → n < node_count s.cfg → IsHeld o → cycles_of (name_at s.cfg n) (line_of_output s w m o) ≡ own (n == m) (periods o)
+line_cycles : (s : Setting) (w : WorldAt) (m n : ℕ) (o : Output) → HasNames s.cfg → n < node_count s.cfg → IsHeld o
+    → cycles_of (name_at s.cfg n) (line_of_output s w m o) ≡ own (n == m) (periods o)
 line_cycles s w m n o names below held =
     ap (cycles_in (name_at s.cfg n)) (output_reads (name_at s.cfg m) (w.node m).ticks o (pos (path_of s.cfg m)) (Some (w.clock m).off) (at_word s.cfg names m))
     ∙ words_cycles (name_at s.cfg n) (name_at s.cfg m) (decimal (w.node m).ticks) o (pos (path_of s.cfg m)) (Some (w.clock m).off) held
@@ -129,11 +132,13 @@ step_cycles commands s y w v g n names below =
 
 -- An input moves the clock by the periods that its lines tell
 
-own_moves : (s : Setting) (y : ℤ) (v : WorldAt) (g : Given) (n : ℕ) (b : Bool) → (if b then clock_told s v g (step_of s y v g).cycles (v.clock n) else v.clock n).off ≡ (v.clock n).off +ℤ (own b (step_of s y v g).cycles *ℤ pos (period_of s.cfg.clock))
+own_moves : (s : Setting) (y : ℤ) (v : WorldAt) (g : Given) (n : ℕ) (b : Bool)
+    → (if b then clock_told s v g (step_of s y v g).cycles (v.clock n) else v.clock n).off ≡ (v.clock n).off +ℤ (own b (step_of s y v g).cycles *ℤ pos (period_of s.cfg.clock))
 own_moves s y v g n true = refl
 own_moves s y v g n false = sym (still (v.clock n).off (period_of s.cfg.clock))
 
-both_move : (off one more : ℤ) (period : ℕ) (mid after : ℤ) → mid ≡ off +ℤ (one *ℤ pos period) → after ≡ mid +ℤ (more *ℤ pos period) → after ≡ off +ℤ ((one +ℤ more) *ℤ pos period)
+both_move : (off one more : ℤ) (period : ℕ) (mid after : ℤ) → mid ≡ off +ℤ (one *ℤ pos period) → after ≡ mid +ℤ (more *ℤ pos period)
+    → after ≡ off +ℤ ((one +ℤ more) *ℤ pos period)
 both_move off one more period mid after e f =
     let product : (one +ℤ more) *ℤ pos period ≡ (one *ℤ pos period) +ℤ (more *ℤ pos period) = product_sum one more (pos period) in
     sum_up off (one *ℤ pos period) (more *ℤ pos period) ((one +ℤ more) *ℤ pos period) mid after e f product
@@ -142,7 +147,8 @@ both_move off one more period mid after e f =
     sum_up off a b c mid after e f g = omega (arith, ints, e, f, g)
 
 pub given_moves : CommandsAreHeld → (s : Setting) (y : ℤ) (w : WorldAt) (gs : List Given) (v : WorldAt) (n : ℕ) → HasNames s.cfg → n < node_count s.cfg →
-    ((gives_all s y v gs).clock n).off ≡ (v.clock n).off +ℤ (total (cycles_of (name_at s.cfg n)) (flat_map (step_lines (λ o. true) s w) (steps_of s y v gs)) *ℤ pos (period_of s.cfg.clock))
+    ((gives_all s y v gs).clock n).off
+    ≡ (v.clock n).off +ℤ (total (cycles_of (name_at s.cfg n)) (flat_map (step_lines (λ o. true) s w) (steps_of s y v gs)) *ℤ pos (period_of s.cfg.clock))
 given_moves commands s y w [] v n names below = sym (still (v.clock n).off (period_of s.cfg.clock))
 given_moves commands s y w (g ∷ gs) v n names below =
     let next : WorldAt = gives s y v g in
@@ -152,7 +158,8 @@ given_moves commands s y w (g ∷ gs) v n names below =
     let period : ℕ = period_of s.cfg.clock in
     let moves : (next.clock n).off ≡ (v.clock n).off +ℤ (total f one *ℤ pos period) =
     own_moves s y v g n (n == g.to) ∙ ap (λ (c : ℤ). (v.clock n).off +ℤ (c *ℤ pos period)) (sym (step_cycles commands s y w v g n names below)) in
-    both_move (v.clock n).off (total f one) (total f more) period (next.clock n).off ((gives_all s y next gs).clock n).off moves (given_moves commands s y w gs next n names below)
+    both_move (v.clock n).off (total f one) (total f more) period (next.clock n).off ((gives_all s y next gs).clock n).off moves
+    (given_moves commands s y w gs next n names below)
     ∙ ap (λ (c : ℤ). (v.clock n).off +ℤ (c *ℤ pos period)) (sym (total_both f one more))
 
 -- An event
@@ -190,16 +197,20 @@ moves_by w (Down m) n h = same_off (n == m) ∙ plus_none (w.clock n).off
     same_off false = refl
 moves_by w (Up m off swaps) n h = started (n == m) h ∙ plus_none (w.clock n).off
   where
-    started : (b : Bool) → (if b then Some off else None) ≡ None → (if b then record { up = true; off = off; ticked = w.time; samples = 0 } else w.clock n).off ≡ (w.clock n).off
+    started : (b : Bool) → (if b then Some off else None) ≡ None
+        → (if b then record { up = true; off = off; ticked = w.time; samples = 0 } else w.clock n).off ≡ (w.clock n).off
     started true e = absurd (none-some off (sym e))
     started false e = refl
 moves_by w (Cut k) n h = plus_none (w.clock n).off
 moves_by w (Join k ms sm) n h = plus_none (w.clock n).off
 
-pub drifts_on : CommandsAreHeld → (s : Setting) (before : List Happened) (h : Happened) (n : ℕ) → HasNames s.cfg → n < node_count s.cfg → start_by h.event n ≡ None →
-    ((world_after s (h ∷ before)).clock n).off ≡ ((world_after s before).clock n).off +ℤ (drift_by h.event n +ℤ (cycles_at s before h n *ℤ pos (period_of s.cfg.clock)))
+pub drifts_on : CommandsAreHeld → (s : Setting) (before : List Happened) (h : Happened) (n : ℕ) → HasNames s.cfg → n < node_count s.cfg
+    → start_by h.event n ≡ None →
+    ((world_after s (h ∷ before)).clock n).off
+    ≡ ((world_after s before).clock n).off +ℤ (drift_by h.event n +ℤ (cycles_at s before h n *ℤ pos (period_of s.cfg.clock)))
 drifts_on commands s before h n names below none =
-    sums ((world_after s before).clock n).off (drift_by h.event n) (cycles_at s before h n *ℤ pos (period_of s.cfg.clock)) _ _ (moves_by (world_after s before) h.event n none) (event_moves commands s before h n names below)
+    sums ((world_after s before).clock n).off (drift_by h.event n) (cycles_at s before h n *ℤ pos (period_of s.cfg.clock)) _ _
+    (moves_by (world_after s before) h.event n none) (event_moves commands s before h n names below)
   where
     sums : (off a b mid after : ℤ) → mid ≡ off +ℤ a → after ≡ mid +ℤ b → after ≡ off +ℤ (a +ℤ b)
     sums off a b mid after e f = omega (arith, ints, e, f)
@@ -209,7 +220,8 @@ drifts_on commands s before h n names below none =
 abbrev IsNoFrame : Input → Type 0
 IsNoFrame input = is_frame input ≡ false
 
-unmoved : CommandsAreHeld → (s : Setting) (y : ℤ) (gs : List Given) (v : WorldAt) (n : ℕ) → AllGiven IsNoFrame gs → ((gives_all s y v gs).clock n).off ≡ (v.clock n).off
+unmoved : CommandsAreHeld → (s : Setting) (y : ℤ) (gs : List Given) (v : WorldAt) (n : ℕ) → AllGiven IsNoFrame gs
+    → ((gives_all s y v gs).clock n).off ≡ (v.clock n).off
 unmoved commands s y [] v n h = refl
 unmoved commands s y (g ∷ gs) v n h =
     let period : ℕ = period_of s.cfg.clock in
@@ -220,10 +232,12 @@ unmoved commands s y (g ∷ gs) v n h =
     ∙ ap (λ (c : ℤ). (v.clock n).off +ℤ (c *ℤ pos period)) (sym (either_nothing (n == g.to)))
     ∙ still (v.clock n).off period
 
-pub starts_at : CommandsAreHeld → (s : Setting) (says : Result PtpMsg FrameFault) (y : ℤ) (w : WorldAt) (n : ℕ) (off : ℤ) (swaps : Items Swap) → ((world_step s says y w (Up n off swaps)).clock n).off ≡ off
+pub starts_at : CommandsAreHeld → (s : Setting) (says : Result PtpMsg FrameFault) (y : ℤ) (w : WorldAt) (n : ℕ) (off : ℤ) (swaps : Items Swap)
+    → ((world_step s says y w (Up n off swaps)).clock n).off ≡ off
 starts_at commands s says y w n off swaps =
     let v : WorldAt = moved s w (Up n off swaps) in
-    unmoved commands s y (given_plain n Reset ∷ at_ports s v (comes_from s v) n) v n (refl, ports_given IsNoFrame s v (comes_from s v) n (numbers_of (s.set n)) (comes_all IsNoFrame (λ p m. refl) s v))
+    unmoved commands s y (given_plain n Reset ∷ at_ports s v (comes_from s v) n) v n
+    (refl, ports_given IsNoFrame s v (comes_from s v) n (numbers_of (s.set n)) (comes_all IsNoFrame (λ p m. refl) s v))
     ∙ here (eqb_tells n n)
   where
     here : ((n == n) ≡ true × (n ≡ n)) ⊎ ((n == n) ≡ false × ((n ≡ n) → ⊥)) → (clock_after w (Up n off swaps) n).off ≡ off

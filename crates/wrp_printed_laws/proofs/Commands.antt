@@ -46,7 +46,8 @@ meant_where false state x h = inl refl
 answered_meant : (lo hi : ℤ) (v : Core) (f : Four) (y : ℤ) (o : Option Deltas) → IsMeant v.state (answered_cycles lo hi v f y o)
 answered_meant lo hi v f y None = inl refl
 answered_meant lo hi v f y (Some d) =
-    meant_where (is_in lo hi (x_of d f)) v.state (cycles_in v (est_of v.phase.u (kept_of f d y)) v.state) (in_state v (est_of v.phase.u (kept_of f d y)) v.state)
+    meant_where (is_in lo hi (x_of d f)) v.state (cycles_in v (est_of v.phase.u (kept_of f d y)) v.state)
+    (in_state v (est_of v.phase.u (kept_of f d y)) v.state)
 
 newest_meant : (b : Bool) (state : ServoState) (x : ℤ) → IsMeant state x → IsMeant state (if b then pos 0 else x)
 newest_meant true state x h = inl refl
@@ -65,22 +66,29 @@ measured_meant fixed (Some f) y n true s same none =
     (subst (λ (z : ℤ). IsMeant v.state (if unsigned_abs told == 0 then z else told)) (sym none)
     (newest_meant (unsigned_abs told == 0) v.state told (answered_meant x.lo x.hi v f y (deltas_in_chain v))))
 
-unless_meant : (reason : Option Reason) (fixed : NodeSetting) (p : ℕ) (input : PortIn) (y : ℤ) (n : NodeAt) → IsMeant (state_of fixed n) (heard_unless reason fixed p input y n).cycles
+unless_meant : (reason : Option Reason) (fixed : NodeSetting) (p : ℕ) (input : PortIn) (y : ℤ) (n : NodeAt)
+    → IsMeant (state_of fixed n) (heard_unless reason fixed p input y n).cycles
 unless_meant None fixed p input y n = measured_meant fixed (measured_at fixed n p input) y n (is_some (slave_of fixed.set)) (used fixed p input n) refl refl
 unless_meant (Some reason) fixed p input y n = inl refl
 
-heard_meant : (fixed : NodeSetting) (p : ℕ) (says : Result PtpMsg FrameFault) (raw : Raw) (sample : ℕ) (y : ℤ) (n : NodeAt) → IsMeant (state_of fixed n) (heard fixed p says raw sample y n).cycles
+heard_meant : (fixed : NodeSetting) (p : ℕ) (says : Result PtpMsg FrameFault) (raw : Raw) (sample : ℕ) (y : ℤ) (n : NodeAt)
+    → IsMeant (state_of fixed n) (heard fixed p says raw sample y n).cycles
 heard_meant fixed p (Err fault) raw sample y n = inl refl
 heard_meant fixed p (Ok m) raw sample y n =
     unless_meant (early_reason (setting_of fixed.set p) (link_at fixed.set n p) m) fixed p (message_of fixed n p m raw sample) y n
 
-by_input : CommandsAreHeld → (fixed : NodeSetting) (input : Input) (says : Result PtpMsg FrameFault) (y : ℤ) (n : NodeAt) → IsMeant (state_of fixed n) (node_step fixed (record { input = input; says = says; answer = y }) n).cycles
+by_input : CommandsAreHeld → (fixed : NodeSetting) (input : Input) (says : Result PtpMsg FrameFault) (y : ℤ) (n : NodeAt)
+    → IsMeant (state_of fixed n) (node_step fixed (record { input = input; says = says; answer = y }) n).cycles
 by_input commands fixed (Frame p octets raw sample) says y n =
-    subst (IsMeant (state_of fixed n)) (sym (settled_cycles fixed (stepped fixed (Frame p octets raw sample) says y n))) (heard_meant fixed p says raw sample y n)
+    subst (IsMeant (state_of fixed n)) (sym (settled_cycles fixed (stepped fixed (Frame p octets raw sample) says y n)))
+    (heard_meant fixed p says raw sample y n)
 by_input commands fixed Tick says y n = inl ((commands fixed (record { input = Tick; says = says; answer = y }) n).by_frame refl)
-by_input commands fixed (Sample number base bits) says y n = inl ((commands fixed (record { input = Sample number base bits; says = says; answer = y }) n).by_frame refl)
-by_input commands fixed (Sent p seq delay stamp) says y n = inl ((commands fixed (record { input = Sent p seq delay stamp; says = says; answer = y }) n).by_frame refl)
-by_input commands fixed (Carrier p up own_module) says y n = inl ((commands fixed (record { input = Carrier p up own_module; says = says; answer = y }) n).by_frame refl)
+by_input commands fixed (Sample number base bits) says y n =
+    inl ((commands fixed (record { input = Sample number base bits; says = says; answer = y }) n).by_frame refl)
+by_input commands fixed (Sent p seq delay stamp) says y n =
+    inl ((commands fixed (record { input = Sent p seq delay stamp; says = says; answer = y }) n).by_frame refl)
+by_input commands fixed (Carrier p up own_module) says y n =
+    inl ((commands fixed (record { input = Carrier p up own_module; says = says; answer = y }) n).by_frame refl)
 by_input commands fixed Reset says y n = inl ((commands fixed (record { input = Reset; says = says; answer = y }) n).by_frame refl)
 
 pub commands_meant : CommandsAreHeld → (fixed : NodeSetting) (t : Taken) (n : NodeAt) → IsMeant (state_of fixed n) (node_step fixed t n).cycles

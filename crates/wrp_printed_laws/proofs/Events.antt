@@ -70,7 +70,8 @@ calm_by (Carrier p up own_module) ticks h = refl
 calm_by Reset ticks h = absurd h
 
 -- the tick count of a node after an input
-one_count : TicksAreCounted → (s : Setting) (y : ℤ) (v : WorldAt) (g : Given) (n : ℕ) → ((gives s y v g).node n).ticks ≡ (if n == g.to then ticks_by g.input (v.node n).ticks else (v.node n).ticks)
+one_count : TicksAreCounted → (s : Setting) (y : ℤ) (v : WorldAt) (g : Given) (n : ℕ)
+    → ((gives s y v g).node n).ticks ≡ (if n == g.to then ticks_by g.input (v.node n).ticks else (v.node n).ticks)
 one_count counted s y v g n = elim (eqb_tells n g.to) [
   | inl x ↦
       ap (λ (b : Bool). (if b then (step_of s y v g).node else v.node n).ticks) x.0
@@ -86,7 +87,8 @@ same_either : (b : Bool) (x y : ℕ) → x ≡ y → (if b then x else y) ≡ y
 same_either true x y e = e
 same_either false x y e = refl
 
-calm_count : TicksAreCounted → (s : Setting) (y : ℤ) (gs : List Given) (v : WorldAt) (n : ℕ) → AllGiven IsCalm gs → ((gives_all s y v gs).node n).ticks ≡ (v.node n).ticks
+calm_count : TicksAreCounted → (s : Setting) (y : ℤ) (gs : List Given) (v : WorldAt) (n : ℕ) → AllGiven IsCalm gs
+    → ((gives_all s y v gs).node n).ticks ≡ (v.node n).ticks
 calm_count counted s y [] v n h = refl
 calm_count counted s y (g ∷ gs) v n h =
     calm_count counted s y gs (gives s y v g) n h.1 ∙ one_count counted s y v g n
@@ -98,10 +100,12 @@ count_by (Tick m) n ticks = if n == m then ticks + 1 else ticks
 count_by (Up m off swaps) n ticks = if n == m then 0 else ticks
 count_by _ n ticks = ticks
 
-quiet_count : TicksAreCounted → (s : Setting) (says : Result PtpMsg FrameFault) (y : ℤ) (w : WorldAt) (e : Event) (n : ℕ) → IsQuiet e → ((world_step s says y w e).node n).ticks ≡ (w.node n).ticks
+quiet_count : TicksAreCounted → (s : Setting) (says : Result PtpMsg FrameFault) (y : ℤ) (w : WorldAt) (e : Event) (n : ℕ) → IsQuiet e
+    → ((world_step s says y w e).node n).ticks ≡ (w.node n).ticks
 quiet_count counted s says y w e n h = calm_count counted s y (given_by s w (moved s w e) says e) (moved s w e) n (quiet_given s w (moved s w e) says e h)
 
-pub event_count : TicksAreCounted → (s : Setting) (says : Result PtpMsg FrameFault) (y : ℤ) (w : WorldAt) (e : Event) (n : ℕ) → ((world_step s says y w e).node n).ticks ≡ count_by e n (w.node n).ticks
+pub event_count : TicksAreCounted → (s : Setting) (says : Result PtpMsg FrameFault) (y : ℤ) (w : WorldAt) (e : Event) (n : ℕ)
+    → ((world_step s says y w e).node n).ticks ≡ count_by e n (w.node n).ticks
 event_count counted s says y w (Tick m) n = one_count counted s y (moved s w (Tick m)) (given_plain m TickInput) n
 event_count counted s says y w (Up m off swaps) n =
     let v : WorldAt = moved s w (Up m off swaps) in
@@ -123,7 +127,8 @@ given_stands : (s : Setting) (y : ℤ) (gs : List Given) (v : WorldAt) (n : ℕ)
 given_stands s y [] v n = refl
 given_stands s y (g ∷ gs) v n = given_stands s y gs (gives s y v g) n ∙ given_up s y v g n
 
-pub event_stands : (s : Setting) (says : Result PtpMsg FrameFault) (y : ℤ) (w : WorldAt) (e : Event) (n : ℕ) → ((world_step s says y w e).clock n).up ≡ (clock_after w e n).up
+pub event_stands : (s : Setting) (says : Result PtpMsg FrameFault) (y : ℤ) (w : WorldAt) (e : Event) (n : ℕ)
+    → ((world_step s says y w e).clock n).up ≡ (clock_after w e n).up
 event_stands s says y w e n = given_stands s y (given_by s w (moved s w e) says e) (moved s w e) n
 
 -- Inputs that are no tick

@@ -39,7 +39,8 @@ no_empty_name : is_name [] ≡ true → ⊥
 no_empty_name e = cc e
 
 -- a node of the network has a name, which no text for other numbers is
-there_by : (cfg : NetCfg) → HasNames cfg → (m n : ℕ) (o : Option NodeCfg) → slice_get cfg.nodes.items m ≡ o → n < node_count cfg → option_map_or (λ (node : NodeCfg). node.name.bytes) o [] ≡ name_at cfg n → m ≡ n
+there_by : (cfg : NetCfg) → HasNames cfg → (m n : ℕ) (o : Option NodeCfg) → slice_get cfg.nodes.items m ≡ o → n < node_count cfg
+    → option_map_or (λ (node : NodeCfg). node.name.bytes) o [] ≡ name_at cfg n → m ≡ n
 there_by cfg names m n (Some other) is below same =
     same_Some m n (sym (node_found cfg names m other is) ∙ ap (node_named cfg) same ∙ finds cfg names n below)
 there_by cfg names m n None is below same =
@@ -54,6 +55,7 @@ pub same_names : (cfg : NetCfg) → HasNames cfg → (m n : ℕ) → n < node_co
 same_names cfg names m n below = elim (eqb_tells n m) [
   | inl x ↦ ap (λ (i : ℕ). same_name (name_at cfg m) (name_at cfg i)) x.1 ∙ same_refl (name_at cfg m) ∙ sym x.0
   | inr x ↦
-      false_from_ne_true (same_name (name_at cfg m) (name_at cfg n)) (λ is. absurd (x.1 (sym (same_node cfg names m n below (same_is (name_at cfg m) (name_at cfg n) is)))))
+      false_from_ne_true (same_name (name_at cfg m) (name_at cfg n))
+      (λ is. absurd (x.1 (sym (same_node cfg names m n below (same_is (name_at cfg m) (name_at cfg n) is)))))
       ∙ sym x.0
 ]

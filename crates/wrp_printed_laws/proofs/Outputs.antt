@@ -45,7 +45,8 @@ word_if : (P : Output → Type 0) → Others P → (b : Bool) (p : ℕ) (word : 
 word_if P others true p word = tt
 word_if P others false p word = (others (Report (Link p word)) tt, tt)
 
-pub ports_all : (P : Output → Type 0) → Others P → (fixed : NodeSetting) (before : NodeAt) (s : Step) (ps : List ℕ) → AllByRecursion P (flat_map (port_out fixed before s) ps)
+pub ports_all : (P : Output → Type 0) → Others P → (fixed : NodeSetting) (before : NodeAt) (s : Step) (ps : List ℕ)
+    → AllByRecursion P (flat_map (port_out fixed before s) ps)
 ports_all P others fixed before s [] = tt
 ports_all P others fixed before s (p ∷ ps) =
     let old : LinkWord = word_of (link_at fixed.set before p) in
@@ -62,7 +63,8 @@ track_if : (P : Output → Type 0) → ((est : ℤ) → P (Report (Track est))) 
 track_if P h true o = est_all P h o
 track_if P h false o = tt
 
-pub track_all : (P : Output → Type 0) → ((est : ℤ) → P (Report (Track est))) → (fixed : NodeSetting) (input : Input) (n : NodeAt) → AllByRecursion P (track_out fixed input n)
+pub track_all : (P : Output → Type 0) → ((est : ℤ) → P (Report (Track est))) → (fixed : NodeSetting) (input : Input) (n : NodeAt)
+    → AllByRecursion P (track_out fixed input n)
 track_all P h fixed TickInput n = track_if P h (is_track (state_of fixed n) && (n.ticks % fixed.set.report == 0)) (est_of fixed n)
 track_all P h fixed (Sample number base bits) n = tt
 track_all P h fixed (Frame p octets raw sample) n = tt
@@ -70,7 +72,8 @@ track_all P h fixed (Sent p seq delay stamp) n = tt
 track_all P h fixed (Carrier p up own_module) n = tt
 track_all P h fixed Reset n = tt
 
-servo_if : (P : Output → Type 0) → ((state : ServoState) → P (Report (Servo state))) → (b : Bool) (state : ServoState) → AllByRecursion P (if b then [] else Report (Servo state) ∷ [])
+servo_if : (P : Output → Type 0) → ((state : ServoState) → P (Report (Servo state))) → (b : Bool) (state : ServoState)
+    → AllByRecursion P (if b then [] else Report (Servo state) ∷ [])
 servo_if P h true state = tt
 servo_if P h false state = (h state, tt)
 
@@ -82,7 +85,8 @@ step_if P cycles h true = tt
 step_if P cycles h false = (h, tt)
 
 -- all of them
-pub outputs_all : (P : Output → Type 0) → Others P → ((state : ServoState) → P (Report (Servo state))) → (fixed : NodeSetting) (input : Input) (before : NodeAt) (s : Step) → P (StepOf s.cycles) → AllByRecursion P (track_out fixed input s.node) →
+pub outputs_all : (P : Output → Type 0) → Others P → ((state : ServoState) → P (Report (Servo state)))
+    → (fixed : NodeSetting) (input : Input) (before : NodeAt) (s : Step) → P (StepOf s.cycles) → AllByRecursion P (track_out fixed input s.node) →
     AllByRecursion P (outputs_of fixed input before s)
 outputs_all P others states fixed input before s step tracks =
     let servo : List Output = servo_out (state_of fixed before) (state_of fixed s.node) in

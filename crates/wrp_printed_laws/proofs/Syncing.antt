@@ -50,7 +50,8 @@ no_more : (before later : List (List ℕ)) (line : List ℕ) → [] ≡ before +
 no_more [] later line e = cc
 no_more (b ∷ before) later line e = cc
 
-placed : (lines : List (List ℕ)) (x : List ℕ) (before later : List (List ℕ)) (line : List ℕ) → lines ++ x ∷ [] ≡ before ++ line ∷ later → Placed lines x before later line
+placed : (lines : List (List ℕ)) (x : List ℕ) (before later : List (List ℕ)) (line : List ℕ) → lines ++ x ∷ [] ≡ before ++ line ∷ later
+    → Placed lines x before later line
 placed [] x [] later line e = inl (refl, heads x line [] later e)
 placed [] x (b ∷ before) later line e = absurd (no_more before later line (tails x b [] (before ++ line ∷ later) e))
 placed (y ∷ lines) x [] later line e = inr (lines, ap (λ (l : List ℕ). l ∷ lines) (heads y line (lines ++ x ∷ []) later e))
@@ -147,7 +148,8 @@ kind_is s w m (Report (Servo state)) = refl
 kind_is s w m (Report (Track est)) = refl
 
 -- a line of another kind does not read so
-other_kind : (s : Setting) (w : WorldAt) (m : ℕ) (o : Output) (node tick kind : List ℕ) (more : List (List ℕ)) → HasNames s.cfg → same_name (kind_of o) kind ≡ false → same_name kind kind ≡ true →
+other_kind : (s : Setting) (w : WorldAt) (m : ℕ) (o : Output) (node tick kind : List ℕ) (more : List (List ℕ)) → HasNames s.cfg
+    → same_name (kind_of o) kind ≡ false → same_name kind kind ≡ true →
     Reads (line_at s w m o) (node ∷ tick ∷ kind ∷ more) → ⊥
 other_kind s w m o node tick kind more names other own reads =
     let same : kind_of o ≡ kind = sym (kind_is s w m o) ∙ ap third_of (sym (at_reads s w m o names) ∙ reads) in
@@ -173,24 +175,29 @@ record Holds (s : Setting) (lines : List (List ℕ)) (state : ℕ → ServoState
   told : (n : ℕ) → n < node_count s.cfg → Told lines (name_at s.cfg n) (state n)
 
 -- a line that tells no state
-plain_line : (s : Setting) (lines : List (List ℕ)) (state : ℕ → ServoState) (x : List ℕ) → ComesSynced lines x → ((node : List ℕ) → SaysNone node x) → Holds s lines state → Holds s (lines ++ x ∷ []) state
+plain_line : (s : Setting) (lines : List (List ℕ)) (state : ℕ → ServoState) (x : List ℕ) → ComesSynced lines x → ((node : List ℕ) → SaysNone node x)
+    → Holds s lines state → Holds s (lines ++ x ∷ []) state
 plain_line s lines state x comes none holds = record {
   steps = one_more lines x holds.steps comes;
   told = λ n below. stays_told lines x (name_at s.cfg n) (state n) (none (name_at s.cfg n)) (holds.told n below);
 }
 
-says_no_state : (s : Setting) (w : WorldAt) (m : ℕ) (o : Output) → HasNames s.cfg → same_name (kind_of o) (codes "servo") ≡ false → (node : List ℕ) → SaysNone node (line_at s w m o)
+says_no_state : (s : Setting) (w : WorldAt) (m : ℕ) (o : Output) → HasNames s.cfg → same_name (kind_of o) (codes "servo") ≡ false → (node : List ℕ)
+    → SaysNone node (line_at s w m o)
 says_no_state s w m o names other node any says = other_kind s w m o node says.0 (codes "servo") (any ∷ []) names other refl says.1
 
-says_no_step : (s : Setting) (w : WorldAt) (m : ℕ) (o : Output) (lines : List (List ℕ)) → HasNames s.cfg → same_name (kind_of o) (codes "step") ≡ false → ComesSynced lines (line_at s w m o)
+says_no_step : (s : Setting) (w : WorldAt) (m : ℕ) (o : Output) (lines : List (List ℕ)) → HasNames s.cfg → same_name (kind_of o) (codes "step") ≡ false
+    → ComesSynced lines (line_at s w m o)
 says_no_step s w m o lines names other node tick cycles reads = absurd (other_kind s w m o node tick (codes "step") (cycles ∷ []) names other refl reads)
 
 -- where it is printed
-if_printed : (s : Setting) (lines : List (List ℕ)) (state : ℕ → ServoState) (b : Bool) (x : List ℕ) → Holds s (lines ++ x ∷ []) state → Holds s lines state → Holds s (lines ++ (if b then x ∷ [] else [])) state
+if_printed : (s : Setting) (lines : List (List ℕ)) (state : ℕ → ServoState) (b : Bool) (x : List ℕ) → Holds s (lines ++ x ∷ []) state → Holds s lines state
+    → Holds s (lines ++ (if b then x ∷ [] else [])) state
 if_printed s lines state true x h k = h
 if_printed s lines state false x h k = subst (λ (l : List (List ℕ)). Holds s l state) (sym (append-nil lines)) k
 
-quiet_outs : (p : Output → Bool) (s : Setting) (w : WorldAt) (m : ℕ) (state : ℕ → ServoState) (outs : List Output) (lines : List (List ℕ)) → HasNames s.cfg → AllByRecursion IsQuiet outs → Holds s lines state →
+quiet_outs : (p : Output → Bool) (s : Setting) (w : WorldAt) (m : ℕ) (state : ℕ → ServoState) (outs : List Output) (lines : List (List ℕ)) → HasNames s.cfg
+    → AllByRecursion IsQuiet outs → Holds s lines state →
     Holds s (lines ++ flat_map (output_lines p s w m) outs) state
 quiet_outs p s w m state [] lines names quiet holds = subst (λ (l : List (List ℕ)). Holds s l state) (sym (append-nil lines)) holds
 quiet_outs p s w m state (o ∷ outs) lines names quiet holds =
@@ -201,7 +208,8 @@ quiet_outs p s w m state (o ∷ outs) lines names quiet holds =
 
 -- a step of the clock
 
-step_line : (p : Output → Bool) (s : Setting) (w : WorldAt) (m : ℕ) (state : ℕ → ServoState) (cycles : ℤ) (lines : List (List ℕ)) → HasNames s.cfg → m < node_count s.cfg → IsSync (state m) → Holds s lines state →
+step_line : (p : Output → Bool) (s : Setting) (w : WorldAt) (m : ℕ) (state : ℕ → ServoState) (cycles : ℤ) (lines : List (List ℕ)) → HasNames s.cfg
+    → m < node_count s.cfg → IsSync (state m) → Holds s lines state →
     Holds s (lines ++ line_at s w m (StepOf cycles) ∷ []) state
 step_line p s w m state cycles lines names below sync holds =
     let x : List ℕ = line_at s w m (StepOf cycles) in
@@ -211,7 +219,8 @@ step_line p s w m state cycles lines names below sync holds =
     subst (λ (name : List ℕ). Sync name lines) same (synced lines (name_at s.cfg m) (state m) sync (holds.told m below)))
     (says_no_state s w m (StepOf cycles) names refl) holds
 
-step_by : (p : Output → Bool) (s : Setting) (w : WorldAt) (m : ℕ) (state : ℕ → ServoState) (cycles : ℤ) (lines : List (List ℕ)) (b : Bool) → (unsigned_abs cycles == 0) ≡ b → HasNames s.cfg → m < node_count s.cfg → IsMeant (state m) cycles → Holds s lines state →
+step_by : (p : Output → Bool) (s : Setting) (w : WorldAt) (m : ℕ) (state : ℕ → ServoState) (cycles : ℤ) (lines : List (List ℕ)) (b : Bool)
+    → (unsigned_abs cycles == 0) ≡ b → HasNames s.cfg → m < node_count s.cfg → IsMeant (state m) cycles → Holds s lines state →
     Holds s (lines ++ flat_map (output_lines p s w m) (if b then [] else StepOf cycles ∷ [])) state
 step_by p s w m state cycles lines true is names below meant holds = subst (λ (l : List (List ℕ)). Holds s l state) (sym (append-nil lines)) holds
 step_by p s w m state cycles lines false is names below (inl none) holds =
@@ -227,7 +236,8 @@ step_by p s w m state cycles lines false is names below (inr sync) holds =
 abbrev Becomes : ℕ → ServoState → (state next : ℕ → ServoState) → Type 0
 Becomes m after state next = (next m ≡ after) × ((n : ℕ) → (n ≡ m → ⊥) → next n ≡ state n)
 
-servo_line : (s : Setting) (w : WorldAt) (m : ℕ) (state next : ℕ → ServoState) (after : ServoState) (lines : List (List ℕ)) → HasNames s.cfg → Becomes m after state next → Holds s lines state →
+servo_line : (s : Setting) (w : WorldAt) (m : ℕ) (state next : ℕ → ServoState) (after : ServoState) (lines : List (List ℕ)) → HasNames s.cfg
+    → Becomes m after state next → Holds s lines state →
     Holds s (lines ++ line_at s w m (Report (Servo after)) ∷ []) next
 servo_line s w m state next after lines names becomes holds =
     let o : Output = Report (Servo after) in
@@ -250,7 +260,8 @@ servo_line s w m state next after lines names becomes holds =
     }
 
 -- the same states, where no state is printed
-same_states : (s : Setting) (lines : List (List ℕ)) (m : ℕ) (state next : ℕ → ServoState) (after : ServoState) → state m ≡ after → Becomes m after state next → Holds s lines state → Holds s lines next
+same_states : (s : Setting) (lines : List (List ℕ)) (m : ℕ) (state next : ℕ → ServoState) (after : ServoState) → state m ≡ after → Becomes m after state next
+    → Holds s lines state → Holds s lines next
 same_states s lines m state next after same becomes holds = record {
   steps = holds.steps;
   told = λ n below. elim (eqb_tells n m) [
@@ -281,7 +292,8 @@ in_place Holdover = refl
 place_one : (a b : ServoState) → rank_of a ≡ rank_of b → a ≡ b
 place_one a b e = sym (in_place a) ∙ ap state_in e ∙ in_place b
 
-servo_by : (p : Output → Bool) (s : Setting) (w : WorldAt) (m : ℕ) (state next : ℕ → ServoState) (before after : ServoState) (lines : List (List ℕ)) (b : Bool) → (rank_of before == rank_of after) ≡ b → PrintsStates p → HasNames s.cfg → state m ≡ before →
+servo_by : (p : Output → Bool) (s : Setting) (w : WorldAt) (m : ℕ) (state next : ℕ → ServoState) (before after : ServoState) (lines : List (List ℕ)) (b : Bool)
+    → (rank_of before == rank_of after) ≡ b → PrintsStates p → HasNames s.cfg → state m ≡ before →
     Becomes m after state next → Holds s lines state → Holds s (lines ++ flat_map (output_lines p s w m) (if b then [] else Report (Servo after) ∷ [])) next
 servo_by p s w m state next before after lines true is prints names was becomes holds =
     subst (λ (l : List (List ℕ)). Holds s l next) (sym (append-nil lines))
@@ -293,14 +305,19 @@ servo_by p s w m state next before after lines false is prints names was becomes
 
 -- All outputs of a step
 
-behind : (p : Output → Bool) (s : Setting) (w : WorldAt) (m : ℕ) (state : ℕ → ServoState) (lines : List (List ℕ)) (xs ys : List Output) → Holds s ((lines ++ flat_map (output_lines p s w m) xs) ++ flat_map (output_lines p s w m) ys) state →
+behind : (p : Output → Bool) (s : Setting) (w : WorldAt) (m : ℕ) (state : ℕ → ServoState) (lines : List (List ℕ)) (xs ys : List Output)
+    → Holds s ((lines ++ flat_map (output_lines p s w m) xs) ++ flat_map (output_lines p s w m) ys) state →
     Holds s (lines ++ flat_map (output_lines p s w m) (xs ++ ys)) state
 behind p s w m state lines xs ys holds =
     let f : Output → List (List ℕ) = output_lines p s w m in
-    subst (λ (l : List (List ℕ)). Holds s l state) (append_assoc lines (flat_map f xs) (flat_map f ys) ∙ ap (λ (l : List (List ℕ)). lines ++ l) (sym (flat_map-append f xs ys))) holds
+    subst (λ (l : List (List ℕ)). Holds s l state)
+    (append_assoc lines (flat_map f xs) (flat_map f ys) ∙ ap (λ (l : List (List ℕ)). lines ++ l) (sym (flat_map-append f xs ys))) holds
 
-outputs_hold : (p : Output → Bool) (s : Setting) (w : WorldAt) (m : ℕ) (state next : ℕ → ServoState) (fixed : NodeSetting) (input : Input) (before : NodeAt) (step : Step) (lines : List (List ℕ)) → PrintsStates p → HasNames s.cfg → m < node_count s.cfg →
-    state m ≡ state_of fixed before → IsMeant (state m) step.cycles → Becomes m (state_of fixed step.node) state next → Holds s lines state → Holds s (lines ++ flat_map (output_lines p s w m) (outputs_of fixed input before step)) next
+outputs_hold : (p : Output → Bool) (s : Setting) (w : WorldAt) (m : ℕ) (state next : ℕ → ServoState) (fixed : NodeSetting) (input : Input) (before : NodeAt)
+    (step : Step) (lines : List (List ℕ))
+    → PrintsStates p → HasNames s.cfg → m < node_count s.cfg →
+    state m ≡ state_of fixed before → IsMeant (state m) step.cycles → Becomes m (state_of fixed step.node) state next → Holds s lines state
+    → Holds s (lines ++ flat_map (output_lines p s w m) (outputs_of fixed input before step)) next
 outputs_hold p s w m state next fixed input before step lines prints names below was meant becomes holds =
     let f : Output → List (List ℕ) = output_lines p s w m in
     let dac : List Output = dac_out step.dac in
@@ -308,7 +325,8 @@ outputs_hold p s w m state next fixed input before step lines prints names below
     let ports : List Output = flat_map (port_out fixed before step) (numbers_of fixed.set) in
     let track : List Output = track_out fixed input step.node in
     let a : List Output = step_out step.cycles in
-    let stepped : Holds s (lines ++ flat_map f a) state = step_by p s w m state step.cycles lines (unsigned_abs step.cycles == 0) refl names below meant holds in
+    let stepped : Holds s (lines ++ flat_map f a) state =
+    step_by p s w m state step.cycles lines (unsigned_abs step.cycles == 0) refl names below meant holds in
     let driven : Holds s (lines ++ flat_map f (a ++ dac)) state =
     behind p s w m state lines a dac (quiet_outs p s w m state dac (lines ++ flat_map f a) names (dac_all IsQuiet others_quiet step.dac) stepped) in
     let changed : Holds s (lines ++ flat_map f (a ++ dac ++ servo)) next =
@@ -325,7 +343,8 @@ outputs_hold p s w m state next fixed input before step lines prints names below
 abbrev state_at : Setting → WorldAt → ℕ → ServoState
 state_at s v n = state_of (node_setting_of s n) (v.node n)
 
-becomes_by : (s : Setting) (y : ℤ) (v : WorldAt) (g : Given) → Becomes g.to (state_of (node_setting_of s g.to) (step_of s y v g).node) (state_at s v) (state_at s (gives s y v g))
+becomes_by : (s : Setting) (y : ℤ) (v : WorldAt) (g : Given)
+    → Becomes g.to (state_of (node_setting_of s g.to) (step_of s y v g).node) (state_at s v) (state_at s (gives s y v g))
 becomes_by s y v g = (
   ap (λ (b : Bool). state_of (node_setting_of s g.to) (if b then (step_of s y v g).node else v.node g.to)) (own g.to),
   λ n other. ap (λ (b : Bool). state_of (node_setting_of s n) (if b then (step_of s y v g).node else v.node n)) (unlike n g.to other),
@@ -337,7 +356,8 @@ becomes_by s y v g = (
     unlike : (n m : ℕ) → (n ≡ m → ⊥) → (n == m) ≡ false
     unlike n m other = elim (eqb_tells n m) [ inl it ↦ absurd (other it.1) | inr it ↦ it.0 ]
 
-given_hold : CommandsAreHeld → (p : Output → Bool) (s : Setting) (y : ℤ) (w : WorldAt) (gs : List Given) (v : WorldAt) (lines : List (List ℕ)) → PrintsStates p → HasNames s.cfg → AllWithin s gs → Holds s lines (state_at s v) →
+given_hold : CommandsAreHeld → (p : Output → Bool) (s : Setting) (y : ℤ) (w : WorldAt) (gs : List Given) (v : WorldAt) (lines : List (List ℕ)) → PrintsStates p
+    → HasNames s.cfg → AllWithin s gs → Holds s lines (state_at s v) →
     Holds s (lines ++ flat_map (step_lines p s w) (steps_of s y v gs)) (state_at s (gives_all s y v gs))
 given_hold commands p s y w [] v lines prints names within holds = subst (λ (l : List (List ℕ)). Holds s l (state_at s v)) (sym (append-nil lines)) holds
 given_hold commands p s y w (g ∷ gs) v lines prints names within holds =
@@ -359,7 +379,8 @@ no_lines : (before later : List (List ℕ)) (line : List ℕ) → [] ≡ before 
 no_lines [] later line e = cc
 no_lines (b ∷ before) later line e = cc
 
-all_hold : CommandsAreHeld → (p : Output → Bool) (s : Setting) (events : List Happened) → PrintsStates p → IsRun s events → Holds s (lines_in p s events) (state_at s (world_after s events))
+all_hold : CommandsAreHeld → (p : Output → Bool) (s : Setting) (events : List Happened) → PrintsStates p → IsRun s events
+    → Holds s (lines_in p s events) (state_at s (world_after s events))
 all_hold commands p s [] prints run = record {
   steps = λ before later line node tick cycles e reads. absurd (no_lines before later line e);
   told = λ n below. inl (first_state (node_setting_of s n));

@@ -48,24 +48,30 @@ use Rattle.wrp_projection.proofs.Written.{record_of, records_of, written}
 
 -- The record lines of what a node is given
 
-one_by : (site : LineSetting) (b : Bool) (t : Taken) (inputs : List Taken) → concat (records_of site inputs) ++ (if b then line_of site t.input ++ 10 ∷ [] else []) ≡ concat (records_of site (if b then t ∷ inputs else inputs))
+one_by : (site : LineSetting) (b : Bool) (t : Taken) (inputs : List Taken)
+    → concat (records_of site inputs) ++ (if b then line_of site t.input ++ 10 ∷ [] else []) ≡ concat (records_of site (if b then t ∷ inputs else inputs))
 one_by site true t inputs = sym (concat-snoc (records_of site inputs) (record_of site t))
 one_by site false t inputs = append-nil (concat (records_of site inputs))
 
 given_one : (s : Setting) (n : ℕ) (y : ℤ) (v : WorldAt) (g : Given) →
-    concat (records_of (line_setting_in s n) (v.inputs n)) ++ given_line s n (node_step_of s y v g) ≡ concat (records_of (line_setting_in s n) ((gives s y v g).inputs n))
+    concat (records_of (line_setting_in s n) (v.inputs n)) ++ given_line s n (node_step_of s y v g)
+    ≡ concat (records_of (line_setting_in s n) ((gives s y v g).inputs n))
 given_one s n y v g =
-    ap (λ (b : Bool). concat (records_of (line_setting_in s n) (v.inputs n)) ++ (if b then line_of (line_setting_in s n) g.input ++ 10 ∷ [] else [])) (turned_about g.to n)
+    ap (λ (b : Bool). concat (records_of (line_setting_in s n) (v.inputs n)) ++ (if b then line_of (line_setting_in s n) g.input ++ 10 ∷ [] else []))
+    (turned_about g.to n)
     ∙ one_by (line_setting_in s n) (n == g.to) (taken_of y g) (v.inputs n)
 
 given_all : (s : Setting) (n : ℕ) (y : ℤ) (v : WorldAt) (gs : List Given) →
-    concat (records_of (line_setting_in s n) (v.inputs n)) ++ flat_map (given_line s n) (steps_of s y v gs) ≡ concat (records_of (line_setting_in s n) ((gives_all s y v gs).inputs n))
+    concat (records_of (line_setting_in s n) (v.inputs n)) ++ flat_map (given_line s n) (steps_of s y v gs)
+    ≡ concat (records_of (line_setting_in s n) ((gives_all s y v gs).inputs n))
 given_all s n y v [] = append-nil (concat (records_of (line_setting_in s n) (v.inputs n)))
 given_all s n y v (g ∷ gs) =
-    sym (append_assoc (concat (records_of (line_setting_in s n) (v.inputs n))) (given_line s n (node_step_of s y v g)) (flat_map (given_line s n) (steps_of s y (gives s y v g) gs)))
+    sym
+    (append_assoc (concat (records_of (line_setting_in s n) (v.inputs n))) (given_line s n (node_step_of s y v g)) (flat_map (given_line s n) (steps_of s y (gives s y v g) gs)))
     ∙ ap (λ (l : List ℕ). l ++ flat_map (given_line s n) (steps_of s y (gives s y v g) gs)) (given_one s n y v g) ∙ given_all s n y (gives s y v g) gs
 
-pub given_are : (s : Setting) (n : ℕ) (events : List Happened) → given_lines s n events ≡ concat (records_of (line_setting_in s n) ((world_after s events).inputs n))
+pub given_are : (s : Setting) (n : ℕ) (events : List Happened)
+    → given_lines s n events ≡ concat (records_of (line_setting_in s n) ((world_after s events).inputs n))
 given_are s n [] = refl
 given_are s n (h ∷ before) =
     let w : WorldAt = world_after s before in
@@ -134,14 +140,17 @@ gone_stay (Some end) = (tt, tt)
 goes_stay : (s : Setting) (k : ℕ) (r : Role) → AllStay (goes_from s k r)
 goes_stay s k r = both_stay (goes_at s k r) (goes_at s k (other_of r)) (gone_stay (end_at s k r)) (gone_stay (end_at s k (other_of r)))
 
-come_stay : (s : Setting) (v : WorldAt) (k : ℕ) (r : Role) (o : Option End) → AllStay (option_map_or (λ (end : End). given_plain end.node (inputs.Carrier end.port true (entry_at s k r (v.end_at k r).name)) ∷ []) o [])
+come_stay : (s : Setting) (v : WorldAt) (k : ℕ) (r : Role) (o : Option End)
+    → AllStay (option_map_or (λ (end : End). given_plain end.node (inputs.Carrier end.port true (entry_at s k r (v.end_at k r).name)) ∷ []) o [])
 come_stay s v k r None = tt
 come_stay s v k r (Some end) = (tt, tt)
 
 comes_stay : (s : Setting) (v : WorldAt) (k : ℕ) (r : Role) → AllStay (comes_from s v k r)
-comes_stay s v k r = both_stay (comes_at s v k r) (comes_at s v k (other_of r)) (come_stay s v k r (end_at s k r)) (come_stay s v k (other_of r) (end_at s k (other_of r)))
+comes_stay s v k r =
+    both_stay (comes_at s v k r) (comes_at s v k (other_of r)) (come_stay s v k r (end_at s k r)) (come_stay s v k (other_of r) (end_at s k (other_of r)))
 
-carried_stay : (s : Setting) (w : WorldAt) (f : ℕ → Role → List Given) → ((k : ℕ) (r : Role) → AllStay (f k r)) → (o : Option Place) → AllStay (if_carried s w f o)
+carried_stay : (s : Setting) (w : WorldAt) (f : ℕ → Role → List Given) → ((k : ℕ) (r : Role) → AllStay (f k r)) → (o : Option Place)
+    → AllStay (if_carried s w f o)
 carried_stay s w f h None = tt
 carried_stay s w f h (Some place) = where_stay (has_carrier s w place.link) (f place.link place.role) (h place.link place.role)
 
@@ -201,9 +210,11 @@ stays_by (inputs.Sent p seq delay stamp) ticks h = refl
 stays_by (inputs.Carrier p up m) ticks h = refl
 stays_by inputs.Reset ticks h = absurd h
 
-one_stays : (s : Setting) (y : ℤ) (v : WorldAt) (g : Given) (n : ℕ) (b : Bool) → (n == g.to) ≡ b → Stays g.input → (if b then (step_of s y v g).node else v.node n).ticks ≡ (v.node n).ticks
+one_stays : (s : Setting) (y : ℤ) (v : WorldAt) (g : Given) (n : ℕ) (b : Bool) → (n == g.to) ≡ b → Stays g.input
+    → (if b then (step_of s y v g).node else v.node n).ticks ≡ (v.node n).ticks
 one_stays s y v g n true is stays =
-    ticks_are_counted (node_setting_of s g.to) (taken_of y g) (v.node g.to) ∙ stays_by g.input (v.node g.to).ticks stays ∙ ap (λ m. (v.node m).ticks) (sym (eqb-true n g.to is))
+    ticks_are_counted (node_setting_of s g.to) (taken_of y g) (v.node g.to) ∙ stays_by g.input (v.node g.to).ticks stays
+    ∙ ap (λ m. (v.node m).ticks) (sym (eqb-true n g.to is))
 one_stays s y v g n false is stays = refl
 
 all_stay : (s : Setting) (y : ℤ) (v : WorldAt) (gs : List Given) (n : ℕ) → AllStay gs → ((gives_all s y v gs).node n).ticks ≡ (v.node n).ticks
@@ -212,7 +223,8 @@ all_stay s y v (g ∷ gs) n h = all_stay s y (gives s y v g) gs n h.1 ∙ one_st
 
 -- What one node puts out among it
 
-const_filter : (test : PutOut → Bool) (made : Output → PutOut) (b : Bool) → ((o : Output) → test (made o) ≡ b) → (outs : List Output) → filter test (map made outs) ≡ (if b then map made outs else [])
+const_filter : (test : PutOut → Bool) (made : Output → PutOut) (b : Bool) → ((o : Output) → test (made o) ≡ b) → (outs : List Output)
+    → filter test (map made outs) ≡ (if b then map made outs else [])
 const_filter test made true same [] = refl
 const_filter test made false same [] = refl
 const_filter test made true same (o ∷ outs) = rw (same o) (ap (λ (xs : List PutOut). made o ∷ xs) (const_filter test made true same outs))
@@ -222,7 +234,8 @@ abbrev Made : Setting → WorldAt → Type 0
 Made s v = (n : ℕ) → v.node n ≡ node_after (node_setting_of s n) (v.inputs n)
 
 -- a step of the node itself
-own_step : (cfg : NetCfg) (db : Database) (y : ℤ) (v w : WorldAt) (g : Given) → Made (setting_at cfg db) v → ((gives (setting_at cfg db) y v g).node g.to).ticks ≡ (w.node g.to).ticks
+own_step : (cfg : NetCfg) (db : Database) (y : ℤ) (v w : WorldAt) (g : Given) → Made (setting_at cfg db) v
+    → ((gives (setting_at cfg db) y v g).node g.to).ticks ≡ (w.node g.to).ticks
     → written (line_setting_in (setting_at cfg db) g.to) (v.inputs g.to) ++ flat_map (replay_line cfg) (of_node g.to (put_in w (node_step_of (setting_at cfg db) y v g)))
     ≡ written (line_setting_in (setting_at cfg db) g.to) (taken_of y g ∷ v.inputs g.to)
 own_step cfg db y v w g made ticks =
@@ -230,12 +243,17 @@ own_step cfg db y v w g made ticks =
     let site : LineSetting = line_setting_in s g.to in
     let t : Taken = taken_of y g in
     let outs : List Output = (node_step_of s y v g).outs in
-    let all : of_node g.to (put_in w (node_step_of s y v g)) ≡ put_in w (node_step_of s y v g) = const_filter (λ x. x.node == g.to) (put_at w g.to) true (λ o. eq_self g.to) outs in
-    let lines : flat_map (replay_line cfg) (put_in w (node_step_of s y v g)) ≡ output_lines site (w.node g.to).ticks outs = flat_map-map (replay_line cfg) (put_at w g.to) outs in
-    let after : (step_of s y v g).node ≡ node_after (node_setting_at site) (t ∷ v.inputs g.to) = ap (λ (node : NodeAt). (node_step (node_setting_of s g.to) t node).node) (made g.to) in
+    let all : of_node g.to (put_in w (node_step_of s y v g)) ≡ put_in w (node_step_of s y v g) =
+    const_filter (λ x. x.node == g.to) (put_at w g.to) true (λ o. eq_self g.to) outs in
+    let lines : flat_map (replay_line cfg) (put_in w (node_step_of s y v g)) ≡ output_lines site (w.node g.to).ticks outs =
+    flat_map-map (replay_line cfg) (put_at w g.to) outs in
+    let after : (step_of s y v g).node ≡ node_after (node_setting_at site) (t ∷ v.inputs g.to) =
+    ap (λ (node : NodeAt). (node_step (node_setting_of s g.to) t node).node) (made g.to) in
     let given : (gives s y v g).node g.to ≡ (step_of s y v g).node = ap (λ (b : Bool). if b then (step_of s y v g).node else v.node g.to) (eq_self g.to) in
-    let tick : (w.node g.to).ticks ≡ (node_after (node_setting_at site) (t ∷ v.inputs g.to)).ticks = sym ticks ∙ ap (λ (node : NodeAt). node.ticks) (given ∙ after) in
-    let put : outs ≡ outputs_at (node_setting_at site) (v.inputs g.to) t = ap (λ (node : NodeAt). outputs_of (node_setting_of s g.to) g.input node (node_step (node_setting_of s g.to) t node)) (made g.to) in
+    let tick : (w.node g.to).ticks ≡ (node_after (node_setting_at site) (t ∷ v.inputs g.to)).ticks =
+    sym ticks ∙ ap (λ (node : NodeAt). node.ticks) (given ∙ after) in
+    let put : outs ≡ outputs_at (node_setting_at site) (v.inputs g.to) t =
+    ap (λ (node : NodeAt). outputs_of (node_setting_of s g.to) g.input node (node_step (node_setting_of s g.to) t node)) (made g.to) in
     ap (λ (l : List ℕ). written site (v.inputs g.to) ++ l) (ap (flat_map (replay_line cfg)) all ∙ lines ∙ ap₂ (output_lines site) tick put)
 
 abbrev Own : NetCfg → Database → ℤ → WorldAt → WorldAt → Given → ℕ → Type 0
@@ -243,7 +261,8 @@ Own cfg db y v w g n =
     written (line_setting_in (setting_at cfg db) n) (v.inputs n) ++ flat_map (replay_line cfg) (of_node n (put_in w (node_step_of (setting_at cfg db) y v g)))
     ≡ written (line_setting_in (setting_at cfg db) n) ((gives (setting_at cfg db) y v g).inputs n)
 
-own_one : (cfg : NetCfg) (db : Database) (y : ℤ) (v w : WorldAt) (g : Given) (n : ℕ) → Made (setting_at cfg db) v → ((gives (setting_at cfg db) y v g).node n).ticks ≡ (w.node n).ticks → Own cfg db y v w g n
+own_one : (cfg : NetCfg) (db : Database) (y : ℤ) (v w : WorldAt) (g : Given) (n : ℕ) → Made (setting_at cfg db) v
+    → ((gives (setting_at cfg db) y v g).node n).ticks ≡ (w.node n).ticks → Own cfg db y v w g n
 own_one cfg db y v w g n made ticks = go (n == g.to) refl
   where
     s : Setting
@@ -274,7 +293,8 @@ own_all cfg db y v (g ∷ gs) n made late =
     let rest : List PutOut = flat_map (put_in w) (steps_of s y next gs) in
     let front : List ℕ = written (line_setting_in s n) (v.inputs n) in
     let one : Own cfg db y v w g n = own_one cfg db y v w g n made (sym (all_stay s y next gs n late.0)) in
-    ap (λ (l : List ℕ). front ++ l) (ap (flat_map (replay_line cfg)) (filter-append (λ x. x.node == n) first rest) ∙ flat_map-append (replay_line cfg) (of_node n first) (of_node n rest))
+    ap (λ (l : List ℕ). front ++ l)
+    (ap (flat_map (replay_line cfg)) (filter-append (λ x. x.node == n) first rest) ∙ flat_map-append (replay_line cfg) (of_node n first) (of_node n rest))
     ∙ sym (append_assoc front (flat_map (replay_line cfg) (of_node n first)) (flat_map (replay_line cfg) (of_node n rest)))
     ∙ ap (λ (l : List ℕ). l ++ flat_map (replay_line cfg) (of_node n rest)) one
     ∙ own_all cfg db y next gs n (made_given s y v g made) late.1
@@ -288,6 +308,7 @@ own_lines cfg db n (h ∷ before) =
     let v : WorldAt = moved s w h.event in
     let gs : List Given = given_by s w v h.says h.event in
     let new : List PutOut = flat_map (put_in (world_after s (h ∷ before))) (steps_at s before h) in
-    ap (flat_map (replay_line cfg)) (filter-append (λ x. x.node == n) (put_out_by s before) new) ∙ flat_map-append (replay_line cfg) (of_node n (put_out_by s before)) (of_node n new)
+    ap (flat_map (replay_line cfg)) (filter-append (λ x. x.node == n) (put_out_by s before) new)
+    ∙ flat_map-append (replay_line cfg) (of_node n (put_out_by s before)) (of_node n new)
     ∙ ap (λ (l : List ℕ). l ++ flat_map (replay_line cfg) (of_node n new)) (own_lines cfg db n before)
     ∙ own_all cfg db h.answer v gs n (λ m. made_after s before m) (late_given s w v h.says h.event)

@@ -75,7 +75,8 @@ audited one asked input audit asks (inr (inr looped)) =
     absurd (cc)
 audited one asked input audit asks (inl p) = go p.0 p.1 p.2
   where
-    go : (task : Task) → AsksFor asked (network_text input) task → RecordsAnswer (meaning_at task) (behind_separator (lines_of input)) Done audit → TheAudit input audit
+    go : (task : Task) → AsksFor asked (network_text input) task → RecordsAnswer (meaning_at task) (behind_separator (lines_of input)) Done audit
+        → TheAudit input audit
     go (Audit s) q h = record {
       s = s;
       setting = q.2;
@@ -106,7 +107,8 @@ emitted asked input name records asks (inr (inr looped)) =
     absurd (cc)
 emitted asked input name records asks (inl p) = go p.0 p.1 p.2
   where
-    go : (task : Task) → AsksFor asked (network_text input) task → RecordsAnswer (meaning_at task) (behind_separator (lines_of input)) Done records → TheEmission input name records
+    go : (task : Task) → AsksFor asked (network_text input) task → RecordsAnswer (meaning_at task) (behind_separator (lines_of input)) Done records
+        → TheEmission input name records
     go (Emit own s n) q h =
         let same : requests.Emit own ≡ requests.Emit name = one_command asked (requests.Emit own) (requests.Emit name) q.1 asks in
         let names : own ≡ name = cc in
@@ -126,7 +128,8 @@ emitted asked input name records asks (inl p) = go p.0 p.1 p.2
 abbrev SaidByLine : NetCfg → Happened → Type 0
 SaidByLine cfg h = (line : List ℕ) × (event_read cfg line ≡ Ok h.event)
 
-said_each : (cfg : NetCfg) (lines : List (List ℕ)) (events : List Happened) → map (event_read cfg) lines ≡ map read events → AllByRecursion (SaidByLine cfg) events
+said_each : (cfg : NetCfg) (lines : List (List ℕ)) (events : List Happened) → map (event_read cfg) lines ≡ map read events
+    → AllByRecursion (SaidByLine cfg) events
 said_each cfg [] [] e = tt
 said_each cfg [] (h ∷ events) e = absurd (cc)
 said_each cfg (line ∷ lines) [] e = absurd (cc)
@@ -164,13 +167,15 @@ said_run accepted input audit a =
 abbrev bare_at : NetCfg → Database → Setting
 bare_at cfg db = setting_at (bare_cfg cfg) db
 
-recorded_bare : (site bare : LineSetting) (x : Input) → line_of bare x ≡ line_of site x → read_of bare (line_of site x) ≡ read_of site (line_of site x) → IsRecorded site x → IsRecorded bare x
+recorded_bare : (site bare : LineSetting) (x : Input) → line_of bare x ≡ line_of site x → read_of bare (line_of site x) ≡ read_of site (line_of site x)
+    → IsRecorded site x → IsRecorded bare x
 recorded_bare site bare x line reads recorded = record {
   reads = ap (read_of bare) line ∙ reads ∙ recorded.reads;
   size = subst (λ (l : List ℕ). length l ≤ 8_192) (sym line) recorded.size;
 }
 
-all_bare : (cfg : NetCfg) (db : Database) (n : ℕ) (inputs : List Taken) → AllRecorded (line_setting_in (setting_at cfg db) n) inputs → AllRecorded (line_setting_in (bare_at cfg db) n) inputs
+all_bare : (cfg : NetCfg) (db : Database) (n : ℕ) (inputs : List Taken) → AllRecorded (line_setting_in (setting_at cfg db) n) inputs
+    → AllRecorded (line_setting_in (bare_at cfg db) n) inputs
 all_bare cfg db n [] h = tt
 all_bare cfg db n (t ∷ inputs) h =
     let site : LineSetting = line_setting_in (setting_at cfg db) n in
@@ -182,7 +187,8 @@ record Replayed (site : LineSetting) (inputs : List Taken) (last : NodeAt) : Typ
   accepts : Accepts site (map content_of (records_of site inputs)) (written site inputs)
   closes : Closes site (map content_of (records_of site inputs)) (node_counts site last)
 
-replayed_so : (site : LineSetting) (inputs : List Taken) (last : NodeAt) → AllRecorded site inputs → AllSaid inputs → last ≡ node_after (node_setting_at site) inputs
+replayed_so : (site : LineSetting) (inputs : List Taken) (last : NodeAt) → AllRecorded site inputs → AllSaid inputs
+    → last ≡ node_after (node_setting_at site) inputs
     → AllAnswered (answers_by (law_at site)) (servo_setting_of (node_setting_at site)) last.calls → Replayed site inputs last
 replayed_so site inputs last recorded said made answered =
     let are : AreInputs site (map content_of (records_of site inputs)) inputs =
@@ -195,7 +201,8 @@ replayed_so site inputs last recorded said made answered =
     }
 
 -- the records that stand for them are due to be replayed
-wholly : (site : LineSetting) (inputs : List Taken) (last : NodeAt) (lines : List (List ℕ)) → lines ≡ records_of site inputs → length lines < 2 ^ 32 → AllRecorded site inputs → Replayed site inputs last
+wholly : (site : LineSetting) (inputs : List Taken) (last : NodeAt) (lines : List (List ℕ)) → lines ≡ records_of site inputs → length lines < 2 ^ 32
+    → AllRecorded site inputs → Replayed site inputs last
     → IsWholly (meaning_of site) lines (written site inputs ++ node_counts site last)
 wholly site inputs last lines are few recorded replayed =
     subst (λ (ls : List (List ℕ)). IsWholly (meaning_of site) ls (written site inputs ++ node_counts site last)) (sym are)
@@ -230,7 +237,8 @@ record OneOfBoth (input name audit records : List ℕ) : Type 0 where
   audit_is : audit ≡ audit_lines (setting_at cfg db) events ++ all_counts (setting_at cfg db) (world_after (setting_at cfg db) events)
   records_are : records ≡ given_lines (setting_at cfg db) site.node events
 
-both_of : InputsAreRecorded → ReadingIsAccepted → OneAudit → (input name audit records : List ℕ) → TheAudit input audit → TheEmission input name records → OneOfBoth input name audit records
+both_of : InputsAreRecorded → ReadingIsAccepted → OneAudit → (input name audit records : List ℕ) → TheAudit input audit → TheEmission input name records
+    → OneOfBoth input name audit records
 both_of inputs accepted one input name audit records a e =
     let lines : List (List ℕ) = map content_of (behind_separator (lines_of input)) in
     let net : Network = a.setting.net in
@@ -283,7 +291,8 @@ replay_is replaying name input replayed audit records asks within few has b =
     let lines : lines_of records ≡ records_of site taken =
     ap lines_of (b.records_are ∙ given_are s n b.events) ∙ lines_alone (records_of site taken) (whole_records site taken b.recorded) in
     let due : IsWholly (meaning_of site) (behind_separator (lines_of replayed)) (written site taken ++ node_counts site (w.node n)) =
-    wholly site taken (w.node n) (behind_separator (lines_of replayed)) (has.lines ∙ lines) (subst (λ (ls : List (List ℕ)). length ls < 2 ^ 32) (sym has.lines) few) b.recorded again in
+    wholly site taken (w.node n) (behind_separator (lines_of replayed)) (has.lines ∙ lines)
+    (subst (λ (ls : List (List ℕ)). length ls < 2 ^ 32) (sym has.lines) few) b.recorded again in
     let network : IsNetworkOf (network_text input) site = subst (IsNetworkOf (network_text input)) b.site_is b.network in
     let is : IsProjection site audit (written site taken ++ node_counts site (w.node n)) = record {
       outs = put_out_by s b.events;

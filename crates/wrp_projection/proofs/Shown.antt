@@ -73,17 +73,20 @@ one_short false e = refl
 shown_one : (cfg : NetCfg) (n : ℕ) (e : Entry) → IsLine cfg e → Shown cfg n e.full (if e.node == n then e.short else [])
 shown_one cfg n e is = record { es = e ∷ []; lines = (is, tt); full = sym (append-nil e.full); short = one_short (e.node == n) e }
 
-shown_both : (cfg : NetCfg) (n : ℕ) (full other short more : List ℕ) → Shown cfg n full short → Shown cfg n other more → Shown cfg n (full ++ other) (short ++ more)
+shown_both : (cfg : NetCfg) (n : ℕ) (full other short more : List ℕ) → Shown cfg n full short → Shown cfg n other more
+    → Shown cfg n (full ++ other) (short ++ more)
 shown_both cfg n full other short more a b = record {
   es = a.es ++ b.es;
   lines = all_append (IsLine cfg) a.es b.es a.lines b.lines;
-  full = ap₂ (λ (x y : List ℕ). x ++ y) a.full b.full ∙ sym (concat-append (map full_of a.es) (map full_of b.es)) ∙ ap concat (sym (map-append full_of a.es b.es));
+  full =
+      ap₂ (λ (x y : List ℕ). x ++ y) a.full b.full ∙ sym (concat-append (map full_of a.es) (map full_of b.es)) ∙ ap concat (sym (map-append full_of a.es b.es));
   short = ap₂ (λ (x y : List ℕ). x ++ y) a.short b.short ∙ sym (concat-append (map short_of (filter (is_own n) a.es)) (map short_of (filter (is_own n) b.es)))
       ∙ ap concat (sym (map-append short_of (filter (is_own n) a.es) (filter (is_own n) b.es)))
       ∙ ap (λ (es : List Entry). concat (map short_of es)) (sym (filter-append (is_own n) a.es b.es));
 }
 
-shown_all : {A : Type 0} (cfg : NetCfg) (n : ℕ) (f g : A → List ℕ) → ((x : A) → Shown cfg n (f x) (g x)) → (xs : List A) → Shown cfg n (flat_map f xs) (flat_map g xs)
+shown_all : {A : Type 0} (cfg : NetCfg) (n : ℕ) (f g : A → List ℕ) → ((x : A) → Shown cfg n (f x) (g x)) → (xs : List A)
+    → Shown cfg n (flat_map f xs) (flat_map g xs)
 shown_all cfg n f g h [] = shown_none cfg n
 shown_all cfg n f g h (x ∷ xs) = shown_both cfg n (f x) (flat_map f xs) (g x) (flat_map g xs) (h x) (shown_all cfg n f g h xs)
 
@@ -96,7 +99,8 @@ whole_lines : (cfg : NetCfg) (es : List Entry) → AllByRecursion (IsLine cfg) e
 whole_lines cfg [] h = tt
 whole_lines cfg (e ∷ es) h = (whole_line cfg e h.0, whole_lines cfg es h.1)
 
-picked_by : (b : Bool) (e : Entry) (rest : List (List ℕ)) (others : List Entry) → without_truth e.full ≡ e.short → flat_map without_truth rest ≡ concat (map short_of others)
+picked_by : (b : Bool) (e : Entry) (rest : List (List ℕ)) (others : List Entry) → without_truth e.full ≡ e.short
+    → flat_map without_truth rest ≡ concat (map short_of others)
     → flat_map without_truth (cond b (e.full ∷ rest) rest) ≡ concat (map short_of (cond b (e ∷ others) others))
 picked_by true e rest others cut later = ap₂ (λ (x y : List ℕ). x ++ y) cut later
 picked_by false e rest others cut later = later
@@ -112,7 +116,8 @@ picked cfg name n named (e ∷ es) h =
     ap (λ (b : Bool). flat_map without_truth (cond b (e.full ∷ rest) rest)) own
     ∙ picked_by (e.node == n) e rest (filter (is_own n) es) cut (picked cfg name n named es h.1)
 
-shown_lines : (cfg : NetCfg) (name : List ℕ) (n : ℕ) (full short : List ℕ) → ((m : ℕ) → same_name (name_at cfg m) name ≡ (m == n)) → Shown cfg n full short → lines_of_node name full ≡ short
+shown_lines : (cfg : NetCfg) (name : List ℕ) (n : ℕ) (full short : List ℕ) → ((m : ℕ) → same_name (name_at cfg m) name ≡ (m == n)) → Shown cfg n full short
+    → lines_of_node name full ≡ short
 shown_lines cfg name n full short named shown =
     ap (λ (ls : List (List ℕ)). flat_map without_truth (filter (λ line. begins_with name (words_of line)) ls))
     (ap lines_of shown.full ∙ lines_alone (map full_of shown.es) (whole_lines cfg shown.es shown.lines))
@@ -138,7 +143,8 @@ fifth name tick (output.Report (Link port word)) bound off = refl
 fifth name tick (output.Report (Servo state)) bound off = refl
 fifth name tick (output.Report (Track est)) bound off = refl
 
-output_shown : (cfg : NetCfg) (n : ℕ) → ((m : ℕ) → IsWord (name_at cfg m)) → (x : PutOut) → Shown cfg n (audit_line cfg x) (if x.node == n then replay_line cfg x else [])
+output_shown : (cfg : NetCfg) (n : ℕ) → ((m : ℕ) → IsWord (name_at cfg m)) → (x : PutOut)
+    → Shown cfg n (audit_line cfg x) (if x.node == n then replay_line cfg x else [])
 output_shown cfg n words x =
     shown_one cfg n (record { node = x.node; full = audit_line cfg x; short = replay_line cfg x })
     (record {
@@ -153,9 +159,11 @@ out_by : (cfg : NetCfg) (b : Bool) (x : PutOut) (rest : List ℕ) (others : List
 out_by cfg true x rest others later = ap (λ (l : List ℕ). replay_line cfg x ++ l) later
 out_by cfg false x rest others later = later
 
-outs_are : (cfg : NetCfg) (n : ℕ) (outs : List PutOut) → flat_map (λ x. if x.node == n then replay_line cfg x else []) outs ≡ flat_map (replay_line cfg) (of_node n outs)
+outs_are : (cfg : NetCfg) (n : ℕ) (outs : List PutOut)
+    → flat_map (λ x. if x.node == n then replay_line cfg x else []) outs ≡ flat_map (replay_line cfg) (of_node n outs)
 outs_are cfg n [] = refl
-outs_are cfg n (x ∷ outs) = out_by cfg (x.node == n) x (flat_map (λ y. if y.node == n then replay_line cfg y else []) outs) (of_node n outs) (outs_are cfg n outs)
+outs_are cfg n (x ∷ outs) =
+    out_by cfg (x.node == n) x (flat_map (λ y. if y.node == n then replay_line cfg y else []) outs) (of_node n outs) (outs_are cfg n outs)
 
 -- The lines of counters
 
@@ -232,7 +240,8 @@ none_later n h (suc count) first later =
 behind_other : (n first : ℕ) → (first == n) ≡ false → first ≤ n → first + 1 ≤ n
 behind_other n first other low = grind (arith, other, low)
 
-found_by : (n : ℕ) (h : ℕ → List ℕ) (first : ℕ) (later : List ℕ) (b : Bool) → (first == n) ≡ b → (first ≡ n → later ≡ []) → ((first == n) ≡ false → later ≡ h n) → where_own b (h first) ++ later ≡ h n
+found_by : (n : ℕ) (h : ℕ → List ℕ) (first : ℕ) (later : List ℕ) (b : Bool) → (first == n) ≡ b → (first ≡ n → later ≡ []) → ((first == n) ≡ false → later ≡ h n)
+    → where_own b (h first) ++ later ≡ h n
 found_by n h first later true is none rest =
     let same : first ≡ n = eqb-true first n is in
     ap (λ (l : List ℕ). h first ++ l) (none same) ∙ append-nil (h first) ∙ ap h same
@@ -246,7 +255,8 @@ one_later n h (suc count) first low high =
 
 -- The projection by the octets
 
-projection_shown : (site : LineSetting) (audit replay : List ℕ) → ((m : ℕ) → IsWord (name_at site.cfg m)) → site.node < node_count site.cfg → IsProjection site audit replay → Shown site.cfg site.node audit replay
+projection_shown : (site : LineSetting) (audit replay : List ℕ) → ((m : ℕ) → IsWord (name_at site.cfg m)) → site.node < node_count site.cfg
+    → IsProjection site audit replay → Shown site.cfg site.node audit replay
 projection_shown site audit replay words within is =
     let n : ℕ = site.node in
     let counts : ℕ → List ℕ = λ m. node_counts (node_of site m) (is.last m) in
@@ -257,18 +267,21 @@ projection_shown site audit replay words within is =
     (shown_all site.cfg n (audit_line site.cfg) (λ x. if x.node == n then replay_line site.cfg x else []) (output_shown site.cfg n words) is.outs)
     (shown_all site.cfg n counts (λ m. where_own (m == n) (counts m)) (λ m. counts_shown site n m (is.last m) (words m)) (from_on (node_count site.cfg) 0)) in
     let short : outs ++ own ≡ replay =
-    ap₂ (λ (x y : List ℕ). x ++ y) (outs_are site.cfg n is.outs) (one_later n counts (node_count site.cfg) 0 (omega arith) (omega (arith, within))) ∙ sym is.of_one in
+    ap₂ (λ (x y : List ℕ). x ++ y) (outs_are site.cfg n is.outs) (one_later n counts (node_count site.cfg) 0 (omega arith) (omega (arith, within)))
+    ∙ sym is.of_one in
     subst (λ (t : List ℕ). Shown site.cfg n t replay) (sym is.of_all)
     (subst (Shown site.cfg n (flat_map (audit_line site.cfg) is.outs ++ flat_map counts (from_on (node_count site.cfg) 0))) short shown)
 
-pub by_octets : (site : LineSetting) (name audit replay : List ℕ) → ((m : ℕ) → IsWord (name_at site.cfg m)) → ((m : ℕ) → same_name (name_at site.cfg m) name ≡ (m == site.node)) → site.node < node_count site.cfg
+pub by_octets : (site : LineSetting) (name audit replay : List ℕ) → ((m : ℕ) → IsWord (name_at site.cfg m))
+    → ((m : ℕ) → same_name (name_at site.cfg m) name ≡ (m == site.node)) → site.node < node_count site.cfg
     → IsProjection site audit replay → replay ≡ lines_of_node name audit
 by_octets site name audit replay words named within is =
     sym (shown_lines site.cfg name site.node audit replay named (projection_shown site audit replay words within is))
 
 -- Names
 
-name_by : (cfg : NetCfg) (m : ℕ) (o : Option NodeCfg) → slice_get cfg.nodes.items m ≡ o → HasNames cfg → IsWord (option_map_or (λ (node : NodeCfg). node.name.bytes) o [])
+name_by : (cfg : NetCfg) (m : ℕ) (o : Option NodeCfg) → slice_get cfg.nodes.items m ≡ o → HasNames cfg
+    → IsWord (option_map_or (λ (node : NodeCfg). node.name.bytes) o [])
 name_by cfg m None is names = refl
 name_by cfg m (Some node) is names = name_word node.name.bytes (names.node m node is)
 
@@ -292,7 +305,8 @@ one_name : (cfg : NetCfg) (name : List ℕ) (n m : ℕ) (node : NodeCfg) → Has
     → (o : Option NodeCfg) → slice_get cfg.nodes.items m ≡ o → option_map_or bytes_of o [] ≡ name → m ≡ n
 one_name cfg name n m node names at is None there same = absurd (not_empty name (subst (λ (l : List ℕ). is_name l ≡ true) is (names.node n node at)) same)
 one_name cfg name n m node names at is (Some other) there same =
-    names.nodes_apart m n name (slice_get-map bytes_of cfg.nodes.items m ∙ ap (λ (o : Option NodeCfg). option_map bytes_of o) there ∙ ap (λ (l : List ℕ). Some l) same)
+    names.nodes_apart m n name
+    (slice_get-map bytes_of cfg.nodes.items m ∙ ap (λ (o : Option NodeCfg). option_map bytes_of o) there ∙ ap (λ (l : List ℕ). Some l) same)
     (slice_get-map bytes_of cfg.nodes.items n ∙ ap (λ (o : Option NodeCfg). option_map bytes_of o) at ∙ ap (λ (l : List ℕ). Some l) is)
 
 pub named_alone : (cfg : NetCfg) (name : List ℕ) (n : ℕ) → HasNames cfg → node_named cfg name ≡ Some n → (m : ℕ) → same_name (name_at cfg m) name ≡ (m == n)

@@ -74,7 +74,8 @@ pub hex_word : (octets : List ℕ) → IsWord (encode_lower octets)
 unfolding encode_with
 hex_word [] = refl
 hex_word (octet ∷ octets) =
-    more_clean (slice_index lower_digits (octet / 16)) (slice_index lower_digits (octet % 16) ∷ encode_lower octets) (index_clean lower_digits refl (octet / 16))
+    more_clean (slice_index lower_digits (octet / 16)) (slice_index lower_digits (octet % 16) ∷ encode_lower octets)
+    (index_clean lower_digits refl (octet / 16))
     (more_clean (slice_index lower_digits (octet % 16)) (encode_lower octets) (index_clean lower_digits refl (octet % 16)) (hex_word octets))
 
 letter_clean : (c : ℕ) → is_letter c ≡ true → is_clean c ≡ true
@@ -197,10 +198,12 @@ space_free text is k d below =
     let octet = AllPass-from_list_all is_clean text is k d below in
     not-true (slice_index_or text k d == 32) (and_parts (not (slice_index_or text k d == 32)) (is_line_octet (slice_index_or text k d)) octet).0
 
-split_back : (word : List ℕ) (words : List (List ℕ)) → AreWords (word ∷ words) → slice_split (λ octet. octet == 32) (join_with_byte 32 (word ∷ words)) ≡ word ∷ words
+split_back : (word : List ℕ) (words : List (List ℕ)) → AreWords (word ∷ words)
+    → slice_split (λ octet. octet == 32) (join_with_byte 32 (word ∷ words)) ≡ word ∷ words
 split_back word [] are = slice_split_none (λ octet. octet == 32) word (space_free word are.0)
 split_back word (next ∷ words) are =
-    slice_split_at (λ octet. octet == 32) word 32 (join_with_byte 32 (next ∷ words)) (space_free word are.0) refl ∙ ap (λ (ws : List (List ℕ)). word ∷ ws) (split_back next words are.1)
+    slice_split_at (λ octet. octet == 32) word 32 (join_with_byte 32 (next ∷ words)) (space_free word are.0) refl
+    ∙ ap (λ (ws : List (List ℕ)). word ∷ ws) (split_back next words are.1)
 
 -- the words of a line are those that it was made of
 pub words_back : (word : List ℕ) (words : List (List ℕ)) → AreWords (word ∷ words) → words_of (line_of (word ∷ words)) ≡ word ∷ words

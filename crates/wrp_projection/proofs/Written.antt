@@ -101,7 +101,8 @@ record_whole site t recorded =
 
 pub whole_records : (site : LineSetting) (inputs : List Taken) → AllRecorded site inputs → AllByRecursion IsWhole (records_of site inputs)
 whole_records site [] h = tt
-whole_records site (t ∷ before) h = all_append IsWhole (records_of site before) (record_of site t ∷ []) (whole_records site before h.1) (record_whole site t h.0, tt)
+whole_records site (t ∷ before) h =
+    all_append IsWhole (records_of site before) (record_of site t ∷ []) (whole_records site before h.1) (record_whole site t h.0, tt)
 
 record_within : (site : LineSetting) (t : Taken) → IsRecorded site t.input → IsWithin (record_of site t)
 record_within site t recorded =
@@ -111,7 +112,8 @@ record_within site t recorded =
 
 pub within_records : (site : LineSetting) (inputs : List Taken) → AllRecorded site inputs → AllByRecursion IsWithin (records_of site inputs)
 within_records site [] h = tt
-within_records site (t ∷ before) h = all_append IsWithin (records_of site before) (record_of site t ∷ []) (within_records site before h.1) (record_within site t h.0, tt)
+within_records site (t ∷ before) h =
+    all_append IsWithin (records_of site before) (record_of site t ∷ []) (within_records site before h.1) (record_within site t h.0, tt)
 
 pub said_records : (site : LineSetting) (inputs : List Taken) → AllRecorded site inputs → map content_of (records_of site inputs) ≡ said_of site inputs
 said_records site [] h = refl
@@ -131,7 +133,8 @@ written site [] = []
 written site (t ∷ before) =
     written site before ++ output_lines site (node_after (node_setting_at site) (t ∷ before)).ticks (outputs_at (node_setting_at site) before t)
 
-pub writes : (site : LineSetting) (inputs : List Taken) → AllSaid inputs → AllAnswered (answers_by (law_at site)) (servo_setting_of (node_setting_at site)) (node_after (node_setting_at site) inputs).calls
+pub writes : (site : LineSetting) (inputs : List Taken) → AllSaid inputs
+    → AllAnswered (answers_by (law_at site)) (servo_setting_of (node_setting_at site)) (node_after (node_setting_at site) inputs).calls
     → Writes site inputs (written site inputs)
 writes site [] said answered = refl
 writes site (t ∷ before) said answered =

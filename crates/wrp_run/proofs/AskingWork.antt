@@ -40,10 +40,13 @@ asks_so asked (Some (command.Loop seed)) is = is
 pub record WorkTask (asked : CommandLine) (text : List ℕ) (work : Work) (s : Setting) : Type 0 where
   pub task : Task
   pub asks : AsksFor asked text task
-  pub due : (source sink : Passage (List ℕ)) (rest : List ℕ) (began ended : Bool) (status : Status) → Passes (of_lines (work_meaning work s)) source sink rest began ended [] status
+  pub due :
+      (source sink : Passage (List ℕ)) (rest : List ℕ) (began ended : Bool) (status : Status)
+      → Passes (of_lines (work_meaning work s)) source sink rest began ended [] status
       → Passes (of_lines (meaning_at task)) source sink rest began ended [] status
 
-pub work_task : (asked : CommandLine) (text : List ℕ) (work : Work) (net : Network) → AsksWork asked net work → length text ≤ network_limit → IsReadingOf text (Ok net)
+pub work_task : (asked : CommandLine) (text : List ℕ) (work : Work) (net : Network) → AsksWork asked net work → length text ≤ network_limit
+    → IsReadingOf text (Ok net)
     → WorkTask asked text work (setting_in net)
 work_task asked text (works.Audit None) net asks within reads =
     record { task = Audit (setting_in net); asks = (within, asks, record { net = net; reads = reads; is = refl }); due = λ source sink rest began ended status at. at }

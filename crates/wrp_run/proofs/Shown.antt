@@ -89,7 +89,8 @@ seen_by s (line ∷ lines) (h ∷ before) = record { event = line; lines = lines
 abbrev read : Happened → Result Event TraceFault
 read h = Ok h.event
 
-are_seen : (s : Setting) (lines : List (List ℕ)) (events : List Happened) → map (event_read s.cfg) lines ≡ map read events → AreSeen s (seen_by s lines events) events
+are_seen : (s : Setting) (lines : List (List ℕ)) (events : List Happened) → map (event_read s.cfg) lines ≡ map read events
+    → AreSeen s (seen_by s lines events) events
 are_seen s [] [] e = tt
 are_seen s [] (h ∷ before) e = absurd (cc)
 are_seen s (line ∷ lines) [] e = absurd (cc)
@@ -99,19 +100,23 @@ are_seen s (line ∷ lines) (h ∷ before) e = (
   are_seen s lines before (tails (event_read s.cfg line) (read h) (map (event_read s.cfg) lines) (map read before) e),
 )
 
-lines_back : (s : Setting) (lines : List (List ℕ)) (events : List Happened) → map (event_read s.cfg) lines ≡ map read events → in_order (λ it. it.event ∷ []) (seen_by s lines events) ≡ reverse lines
+lines_back : (s : Setting) (lines : List (List ℕ)) (events : List Happened) → map (event_read s.cfg) lines ≡ map read events
+    → in_order (λ it. it.event ∷ []) (seen_by s lines events) ≡ reverse lines
 lines_back s [] events e = refl
 lines_back s (line ∷ lines) [] e = absurd (cc)
 lines_back s (line ∷ lines) (h ∷ before) e =
-    ap (λ (l : List (List ℕ)). l ++ line ∷ []) (lines_back s lines before (tails (event_read s.cfg line) (read h) (map (event_read s.cfg) lines) (map read before) e))
+    ap (λ (l : List (List ℕ)). l ++ line ∷ [])
+    (lines_back s lines before (tails (event_read s.cfg line) (read h) (map (event_read s.cfg) lines) (map read before) e))
     ∙ sym (reverse-append (line ∷ []) lines)
 
-steps_shown : (s : Setting) (lines : List (List ℕ)) (events : List Happened) → map (event_read s.cfg) lines ≡ map read events → in_order (λ it. it.lines) (seen_by s lines events) ≡ looped.audit_lines s events
+steps_shown : (s : Setting) (lines : List (List ℕ)) (events : List Happened) → map (event_read s.cfg) lines ≡ map read events
+    → in_order (λ it. it.lines) (seen_by s lines events) ≡ looped.audit_lines s events
 steps_shown s [] [] e = refl
 steps_shown s [] (h ∷ before) e = absurd (cc)
 steps_shown s (line ∷ lines) [] e = absurd (cc)
 steps_shown s (line ∷ lines) (h ∷ before) e =
-    ap₂ (λ (a b : List (List ℕ)). a ++ b) (steps_shown s lines before (tails (event_read s.cfg line) (read h) (map (event_read s.cfg) lines) (map read before) e)) (same_lines s before h)
+    ap₂ (λ (a b : List (List ℕ)). a ++ b)
+    (steps_shown s lines before (tails (event_read s.cfg line) (read h) (map (event_read s.cfg) lines) (map read before) e)) (same_lines s before h)
 
 map_back : {A B : Type 0} (f : A → B) (xs : List A) → map f (reverse xs) ≡ reverse (map f xs)
 map_back f [] = refl
@@ -119,7 +124,8 @@ map_back f (x ∷ xs) =
     ap (map f) (reverse-append (x ∷ []) xs) ∙ map-append f (reverse xs) (x ∷ []) ∙ ap (λ (l : List _). l ++ f x ∷ []) (map_back f xs)
     ∙ sym (reverse-append (f x ∷ []) (map f xs))
 
-newest_first : (s : Setting) (lines : List (List ℕ)) (events : List Happened) → AreEvents s lines events → map (event_read s.cfg) (reverse lines) ≡ map read events
+newest_first : (s : Setting) (lines : List (List ℕ)) (events : List Happened) → AreEvents s lines events
+    → map (event_read s.cfg) (reverse lines) ≡ map read events
 newest_first s lines events are =
     map_back (event_read s.cfg) lines ∙ ap reverse are ∙ sym (map_back read (reverse events)) ∙ ap (map read) (reverse-reverse events)
 
@@ -152,7 +158,8 @@ taken due octets count is = record { rest = drop count due; is = ap (λ (l : Lis
 
 -- An audit
 
-audit_shows : ReadingIsAccepted → EventsCanCome → OffsetsFollow → (asked : CommandLine) (input : List ℕ) (status : Status) (due octets : List ℕ) → StepsOf asked input status due → IsFront due octets → Shows (ComeFrom input) (λ it. it.lines) input octets
+audit_shows : ReadingIsAccepted → EventsCanCome → OffsetsFollow → (asked : CommandLine) (input : List ℕ) (status : Status) (due octets : List ℕ)
+    → StepsOf asked input status due → IsFront due octets → Shows (ComeFrom input) (λ it. it.lines) input octets
 audit_shows accepted can follow asked input status due octets steps front =
     let s : Setting = steps.setting in
     let came : Came asked input s steps.events = steps.came in
@@ -163,7 +170,8 @@ audit_shows accepted can follow asked input status due octets steps front =
     let newest : map (event_read s.cfg) (reverse lines) ≡ map read steps.events = newest_first s lines steps.events came.audit.are in
     let seen : List Seen = seen_by s (reverse lines) steps.events in
     let w : WorldAt = world_after s steps.events in
-    let text : due ≡ concat (looped.audit_lines s steps.events) ++ steps.last = steps.is ∙ ap (λ (l : List ℕ). l ++ steps.last) (sym (steps_text s steps.events)) in
+    let text : due ≡ concat (looped.audit_lines s steps.events) ++ steps.last =
+    steps.is ∙ ap (λ (l : List ℕ). l ++ steps.last) (sym (steps_text s steps.events)) in
     record {
       doc = of.doc;
       text = of.is;
@@ -185,22 +193,28 @@ audit_shows accepted can follow asked input status due octets steps front =
       follow = follow s steps.events seen (run_of can accepted asked input s steps.events came) (are_seen s (reverse lines) steps.events newest);
     }
 
-due_follows : ReadingIsAccepted → EventsCanCome → OffsetsFollow → (asked : CommandLine) (input : List ℕ) (status : Status) (octets : List ℕ) → ReachesNone input status octets ⊎ StepsOf asked input status octets → AuditFollows input octets
+due_follows : ReadingIsAccepted → EventsCanCome → OffsetsFollow → (asked : CommandLine) (input : List ℕ) (status : Status) (octets : List ℕ)
+    → ReachesNone input status octets ⊎ StepsOf asked input status octets → AuditFollows input octets
 due_follows accepted can follow asked input status octets (inl none) = inl (none_tells input status octets none)
-due_follows accepted can follow asked input status octets (inr steps) = inr (audit_shows accepted can follow asked input status octets octets steps (whole octets))
+due_follows accepted can follow asked input status octets (inr steps) =
+    inr (audit_shows accepted can follow asked input status octets octets steps (whole octets))
 
-cut_follows : ReadingIsAccepted → EventsCanCome → OffsetsFollow → (asked : CommandLine) (input : List ℕ) (status : Status) (due octets : List ℕ) (count : ℕ) → octets ≡ take count due → ReachesNone input status due ⊎ StepsOf asked input status due →
+cut_follows : ReadingIsAccepted → EventsCanCome → OffsetsFollow → (asked : CommandLine) (input : List ℕ) (status : Status) (due octets : List ℕ) (count : ℕ)
+    → octets ≡ take count due → ReachesNone input status due ⊎ StepsOf asked input status due →
     AuditFollows input octets
 cut_follows accepted can follow asked input status due octets count is (inl none) =
     inl (subst (λ (l : List ℕ). ShowsNone l) (sym is) (taken_lines TellsNoTrack in_front due count (none_tells input status due none)))
-cut_follows accepted can follow asked input status due octets count is (inr steps) = inr (audit_shows accepted can follow asked input status due octets steps (taken due octets count is))
+cut_follows accepted can follow asked input status due octets count is (inr steps) =
+    inr (audit_shows accepted can follow asked input status due octets steps (taken due octets count is))
 
 prints_follow : ReadingIsAccepted → EventsCanCome → OffsetsFollow → (asked : CommandLine) (input : List ℕ) (status : Status) (octets : List ℕ) →
     Prints (λ due text. ReachesNone input due text ⊎ StepsOf asked input due text) status octets → AuditFollows input octets
-prints_follow accepted can follow asked input WriteFault octets (status, due, count, is, so) = cut_follows accepted can follow asked input status due octets count is so
+prints_follow accepted can follow asked input WriteFault octets (status, due, count, is, so) =
+    cut_follows accepted can follow asked input status due octets count is so
 prints_follow accepted can follow asked input status octets prints = due_follows accepted can follow asked input status octets prints
 
-pub audit_follows : ReadingIsAccepted → EventsCanCome → OffsetsFollow → (asked : CommandLine) (input : List ℕ) (status : Status) (octets : List ℕ) → Headline asked input status octets → AuditFollows input octets
+pub audit_follows : ReadingIsAccepted → EventsCanCome → OffsetsFollow → (asked : CommandLine) (input : List ℕ) (status : Status) (octets : List ℕ)
+    → Headline asked input status octets → AuditFollows input octets
 audit_follows accepted can follow asked input status octets head = prints_follow accepted can follow asked input status octets head.prints
 
 -- A run over a link
@@ -241,7 +255,8 @@ loop_whole s net events each fit =
     let counts : List (List ℕ) = count_lines s (world_after s events) in
     front_all IsWhole (loop_lines s events) counts (front_all IsWhole (loop_lines s events ++ counts) (forged_lines 0) (all_whole s net events each fit 0))
 
-loop_shows : OffsetsFollow → (asked : CommandLine) (input : List ℕ) (calls : List LinkCall) (status : Status) (due octets : List ℕ) (loop : LoopOf asked input calls status due) →
+loop_shows : OffsetsFollow
+    → (asked : CommandLine) (input : List ℕ) (calls : List LinkCall) (status : Status) (due octets : List ℕ) (loop : LoopOf asked input calls status due) →
     CarriesRun event_lines loop.setting (events_at (place loop.last)) → IsFront due octets → Shows AreTold (λ it. marked it ∷ it.lines) input octets
 loop_shows follow asked input calls status due octets loop carried front =
     let s : Setting = loop.setting in
@@ -267,7 +282,8 @@ loop_shows follow asked input calls status due octets loop carried front =
     }
 
 -- what is due shows no track line, or is that of events
-loop_due : (asked : CommandLine) (input : List ℕ) (calls : List LinkCall) (status : Status) (due : List ℕ) → IsLoopDue asked input calls status due → ShowsNone due ⊎ LoopOf asked input calls status due
+loop_due : (asked : CommandLine) (input : List ℕ) (calls : List LinkCall) (status : Status) (due : List ℕ) → IsLoopDue asked input calls status due
+    → ShowsNone due ⊎ LoopOf asked input calls status due
 loop_due asked input calls status due (inl none) = inl (none_tells input status due none.0)
 loop_due asked input calls status due (inr (inl scene)) = inl (names_tells status scene.setting scene.front scene.line due scene.is)
 loop_due asked input calls status due (inr (inr (inl link))) = inl (link_tells asked input calls status due link)
@@ -276,7 +292,8 @@ loop_due asked input calls status due (inr (inr (inr loop))) = inr loop
 abbrev LoopCarries : CommandLine → List ℕ → List LinkCall → Type 0
 LoopCarries asked input calls = (s : Setting) (last : Going) → Looped asked input calls s last → CarriesRun event_lines s (events_at (place last))
 
-loop_prints : OffsetsFollow → (asked : CommandLine) (input : List ℕ) (calls : List LinkCall) → LoopCarries asked input calls → (status : Status) (octets : List ℕ) → Prints (λ due text. IsLoopDue asked input calls due text) status octets → LoopFollows input octets
+loop_prints : OffsetsFollow → (asked : CommandLine) (input : List ℕ) (calls : List LinkCall) → LoopCarries asked input calls
+    → (status : Status) (octets : List ℕ) → Prints (λ due text. IsLoopDue asked input calls due text) status octets → LoopFollows input octets
 loop_prints follow asked input calls carries WriteFault octets (status, due, count, is, so) = elim (loop_due asked input calls status due so) [
   | inl none ↦ inl (subst (λ (l : List ℕ). ShowsNone l) (sym is) (taken_lines TellsNoTrack in_front due count none))
   | inr loop ↦ inr (loop_shows follow asked input calls status due octets loop (carries loop.setting loop.last loop.came) (taken due octets count is))
@@ -286,7 +303,8 @@ loop_prints follow asked input calls carries status octets so = elim (loop_due a
   | inr loop ↦ inr (loop_shows follow asked input calls status octets octets loop (carries loop.setting loop.last loop.came) (whole octets))
 ]
 
-pub loop_follows : OffsetsFollow → (asked : CommandLine) (input : List ℕ) (calls : List LinkCall) (status : Status) (octets : List ℕ) → LoopHeadline asked input calls status octets → LoopFollows input octets
+pub loop_follows : OffsetsFollow → (asked : CommandLine) (input : List ℕ) (calls : List LinkCall) (status : Status) (octets : List ℕ)
+    → LoopHeadline asked input calls status octets → LoopFollows input octets
 loop_follows follow asked input calls status octets head = loop_prints follow asked input calls head.carries status octets head.prints
 
 -- A run
@@ -294,14 +312,16 @@ loop_follows follow asked input calls status octets head = loop_prints follow as
 abbrev FollowsSo : Run → (List ℕ → List ℕ → Type 0) → List ℕ → Type 0
 FollowsSo run P input = (octets : List ℕ) × Appends run.sink.before run.sink.now octets × P input octets
 
-pub audit_told : ReadingIsAccepted → EventsCanCome → OffsetsFollow → EventsCarryParts → OneAudit → (run : Run) (status : Status) → Ends run status → IsAuditing run.asked → IfSome run.source.before (FollowsSo run AuditFollows)
+pub audit_told : ReadingIsAccepted → EventsCanCome → OffsetsFollow → EventsCarryParts → OneAudit → (run : Run) (status : Status) → Ends run status
+    → IsAuditing run.asked → IfSome run.source.before (FollowsSo run AuditFollows)
 audit_told accepted can follow parts one run status ends audits = go run.source.before (headline_told parts one run status ends audits)
   where
     go : (o : Option (List ℕ)) → IfSome o (IsTold run.asked run.sink.before run.sink.now status) → IfSome o (FollowsSo run AuditFollows)
     go None h = tt
     go (Some input) h = (h.0, h.1, audit_follows accepted can follow run.asked input status h.0 h.2)
 
-pub loop_told : OffsetsFollow → LoopedEventsCarryParts → LoopIsAudited → (run : Run) (status : Status) (seed : ℕ) → Ends run status → IsLooping run.asked seed → IfSome run.source.before (FollowsSo run LoopFollows)
+pub loop_told : OffsetsFollow → LoopedEventsCarryParts → LoopIsAudited → (run : Run) (status : Status) (seed : ℕ) → Ends run status → IsLooping run.asked seed
+    → IfSome run.source.before (FollowsSo run LoopFollows)
 loop_told follow parts audited run status seed ends looping = go run.source.before (looped_told parts audited run status seed ends looping)
   where
     go : (o : Option (List ℕ)) → IfSome o (IsLoopedSo run status) → IfSome o (FollowsSo run LoopFollows)

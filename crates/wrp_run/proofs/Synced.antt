@@ -104,7 +104,8 @@ one_line words are none last is =
     let cut : lines_of last ≡ line ∷ [] = ap lines_of (is ∙ sym (append-nil line)) ∙ lines_alone (line ∷ []) (line_whole words are, tt) in
     subst (AllByRecursion NoStep) (sym cut) (none, tt)
 
-few_words : (word : List ℕ) (words : List (List ℕ)) → AreWords (word ∷ words) → (length words == 3) ≡ false → (last : List ℕ) → last ≡ line_of (word ∷ words) → AllByRecursion NoStep (lines_of last)
+few_words : (word : List ℕ) (words : List (List ℕ)) → AreWords (word ∷ words) → (length words == 3) ≡ false → (last : List ℕ) → last ≡ line_of (word ∷ words)
+    → AllByRecursion NoStep (lines_of last)
 few_words word words are other last is = one_line (word ∷ words) are (no_step (line_of (word ∷ words)) (counted word words are other)) last is
 
 nothing : (last : List ℕ) → last ≡ [] → AllByRecursion NoStep (lines_of last)
@@ -143,7 +144,8 @@ bad_trace n fault last is =
 
 broken : (n : ℕ) (breach : Breach) (last : List ℕ) → last ≡ broken_line n breach → AllByRecursion NoStep (lines_of last)
 broken n breach last is =
-    few_words (codes "broken") (decimal n ∷ decimal breach.premise ∷ premise_name breach.premise ∷ signed_decimal breach.shown ∷ signed_decimal breach.bound ∷ [])
+    few_words (codes "broken")
+    (decimal n ∷ decimal breach.premise ∷ premise_name breach.premise ∷ signed_decimal breach.shown ∷ signed_decimal breach.bound ∷ [])
     (refl, (decimal_word n, (decimal_word breach.premise, (premise_word breach.premise, (signed_word breach.shown, (signed_word breach.bound, tt)))))) refl last is
 
 code_word : (code : ℕ) → IsWord (code_name code)
@@ -184,7 +186,8 @@ third_other a b c d are other node tick cycles reads =
 
 refused : (text last : List ℕ) → IsRefusedBy text last → AllByRecursion NoStep (lines_of last)
 refused text last (code, place, reads, is) =
-    let are : AreWords (codes "bad-network" ∷ decimal code ∷ code_name code ∷ place.bytes ∷ []) = (refl, (decimal_word code, (code_word code, (place_word text code place reads, tt)))) in
+    let are : AreWords (codes "bad-network" ∷ decimal code ∷ code_name code ∷ place.bytes ∷ []) =
+    (refl, (decimal_word code, (code_word code, (place_word text code place reads, tt)))) in
     one_line (codes "bad-network" ∷ decimal code ∷ code_name code ∷ place.bytes ∷ []) are
     (third_other (codes "bad-network") (decimal code) (code_name code) place.bytes are (code_other code)) last is
 
@@ -195,12 +198,14 @@ none_tells input ReadFault octets none = nothing octets none
 none_tells input OutOfMemory octets none = nothing octets none
 none_tells input status octets none = absurd none
 
-names_tells : (status : Status) (s : Setting) (front : List (List ℕ)) (line octets : List ℕ) → NamesLine status s front line octets → AllByRecursion NoStep (lines_of octets)
+names_tells : (status : Status) (s : Setting) (front : List (List ℕ)) (line octets : List ℕ) → NamesLine status s front line octets
+    → AllByRecursion NoStep (lines_of octets)
 names_tells BadTrace s front line octets is = bad_trace _ is.2 octets is.4
 names_tells TooLarge s front line octets is = large (length front + 1) octets is.1
 names_tells status s front line octets is = absurd is
 
-last_tells : (status : Status) (s : Setting) (front behind : List (List ℕ)) (counts last : List ℕ) → AllByRecursion NoStep (lines_of counts) → EndsEvents status s front behind counts last → AllByRecursion NoStep (lines_of last)
+last_tells : (status : Status) (s : Setting) (front behind : List (List ℕ)) (counts last : List ℕ) → AllByRecursion NoStep (lines_of counts)
+    → EndsEvents status s front behind counts last → AllByRecursion NoStep (lines_of last)
 last_tells Done s front behind counts last none ends = subst (λ (l : List ℕ). AllByRecursion NoStep (lines_of l)) (sym ends.1) none
 last_tells BadTrace s front behind counts last none ends = bad_trace _ ends.3.0 last ends.3.2
 last_tells Broken s front behind counts last none ends = broken _ ends.3.breach last ends.3.is
@@ -229,7 +234,8 @@ reason_is Unmatched = refl
 reason_is Range = refl
 reason_is Sample = refl
 
-count_tells : (s : Setting) → IsNetwork s → (n port : ℕ) (reason : Reason) (none : Bool) (value : ℕ) → AllByRecursion NoStep (count_if (name_at s.cfg n) port reason none value)
+count_tells : (s : Setting) → IsNetwork s → (n port : ℕ) (reason : Reason) (none : Bool) (value : ℕ)
+    → AllByRecursion NoStep (count_if (name_at s.cfg n) port reason none value)
 count_tells s net n port reason true value = tt
 count_tells s net n port reason false value =
     let words : List (List ℕ) = count_words port (reason_word (number_of reason)) value in (
@@ -238,7 +244,8 @@ count_tells s net n port reason false value =
       tt,
     )
 
-port_tells : (s : Setting) → IsNetwork s → (n : ℕ) (has : Bool) (port : ℕ) (counters : List ℕ) → AllByRecursion NoStep (port_if (name_at s.cfg n) has port counters)
+port_tells : (s : Setting) → IsNetwork s → (n : ℕ) (has : Bool) (port : ℕ) (counters : List ℕ)
+    → AllByRecursion NoStep (port_if (name_at s.cfg n) has port counters)
 port_tells s net n true port counters =
     flat_all NoStep (λ reason. count_if (name_at s.cfg n) port reason (count_at counters (number_of reason) == 0) (count_at counters (number_of reason)))
     (λ reason. count_tells s net n port reason (count_at counters (number_of reason) == 0) (count_at counters (number_of reason))) reasons
@@ -256,7 +263,8 @@ all_tell s net w =
 
 forged_tells : (count : ℕ) (none : Bool) → AllByRecursion NoStep (if none then [] else line_of (codes "forged" ∷ decimal count ∷ []) ∷ [])
 forged_tells count true = tt
-forged_tells count false = (no_step (line_of (codes "forged" ∷ decimal count ∷ [])) (counted (codes "forged") (decimal count ∷ []) (refl, (decimal_word count, tt)) refl), tt)
+forged_tells count false =
+    (no_step (line_of (codes "forged" ∷ decimal count ∷ [])) (counted (codes "forged") (decimal count ∷ []) (refl, (decimal_word count, tt)) refl), tt)
 
 closing_tells : (s : Setting) → IsNetwork s → (w : WorldAt) (forged : ℕ) → AllByRecursion NoStep (lines_of (all_counts s w ++ concat (forged_lines forged)))
 closing_tells s net w forged =
@@ -264,12 +272,14 @@ closing_tells s net w forged =
     ap (λ (l : List ℕ). lines_of (l ++ concat (forged_lines forged))) (sym (counts_text s w))
     ∙ lines_behind (count_lines s w) (concat (forged_lines forged)) (counts_whole s net w)
     ∙ ap (λ (l : List (List ℕ)). count_lines s w ++ l) (lines_alone (forged_lines forged) (forged_whole forged (forged == 0))) in
-    subst (AllByRecursion NoStep) (sym cut) (all_append NoStep (count_lines s w) (forged_lines forged) (counts_tell s net w) (forged_tells forged (forged == 0)))
+    subst (AllByRecursion NoStep) (sym cut)
+    (all_append NoStep (count_lines s w) (forged_lines forged) (counts_tell s net w) (forged_tells forged (forged == 0)))
 
 abbrev sum_row : Setting → List Happened → ℕ → List (List ℕ)
 sum_row s events n =
     let offs = tracked s n events in
-    sum_words ((world_after s events).node n).ticks (count_of offs) (worst_of offs) (pos (path_of s.cfg n)) (servo_word (state_of (node_setting_of s n) ((world_after s events).node n)))
+    sum_words ((world_after s events).node n).ticks (count_of offs) (worst_of offs) (pos (path_of s.cfg n))
+    (servo_word (state_of (node_setting_of s n) ((world_after s events).node n)))
 
 sum_are : (s : Setting) → IsNetwork s → (events : List Happened) (n : ℕ) → AreWords (name_at s.cfg n ∷ sum_row s events n)
 sum_are s net events n =
@@ -306,7 +316,8 @@ concat_map g (x ∷ xs) = ap (λ (rest : List ℕ). g x ++ rest) (concat_map g x
 sums_tell : (s : Setting) → IsNetwork s → (events : List Happened) (last : List ℕ) → last ≡ sum_lines s events → AllByRecursion NoStep (lines_of last)
 sums_tell s net events last is =
     let lines : List (List ℕ) = map (node_sum s events) (nodes_of s) in
-    let cut : lines_of last ≡ lines = ap lines_of (is ∙ sym (concat_map (node_sum s events) (nodes_of s))) ∙ lines_alone lines (sum_whole s net events (nodes_of s)) in
+    let cut : lines_of last ≡ lines =
+    ap lines_of (is ∙ sym (concat_map (node_sum s events) (nodes_of s))) ∙ lines_alone lines (sum_whole s net events (nodes_of s)) in
     subst (AllByRecursion NoStep) (sym cut) (sum_tells s net events (nodes_of s))
 
 -- Lines behind and in front
@@ -354,7 +365,8 @@ front_synced due octets rest all steps lines cut whole is =
     ap lines_of (sym all ∙ ap (λ (l : List ℕ). l ++ rest) is ∙ append_assoc (concat lines) cut rest) ∙ lines_behind lines (cut ++ rest) whole in
     first_lines lines (lines_of (cut ++ rest)) (subst StepsAreSynced parts steps)
 
-prints_synced : (Due : Status → List ℕ → Type 0) → ((status : Status) (due : List ℕ) → Due status due → StepsAreSynced (lines_of due)) → (status : Status) (octets : List ℕ) → Prints Due status octets → StepsComeInSync octets
+prints_synced : (Due : Status → List ℕ → Type 0) → ((status : Status) (due : List ℕ) → Due status due → StepsAreSynced (lines_of due))
+    → (status : Status) (octets : List ℕ) → Prints Due status octets → StepsComeInSync octets
 prints_synced Due each WriteFault octets (status, due, count, is, so) =
     front_synced due octets (drop count due) (ap (λ (l : List ℕ). l ++ drop count due) is ∙ take-append-drop count due) (each status due so)
 prints_synced Due each status octets so = front_synced octets octets [] (append-nil octets) (each status octets so)
@@ -419,7 +431,9 @@ last_among node state xs ys among is =
       later = r.1;
       divided = r.2;
       says = is.says;
-      last = all_among (λ other. (any : List ℕ) → SaysState node any other → ⊥) (λ x none any says. none node says.0 (codes "servo") any says.1) r.1 is.later r.3 is.last;
+      last =
+          all_among (λ other. (any : List ℕ) → SaysState node any other → ⊥)
+          (λ x none any says. none node says.0 (codes "servo") any says.1) r.1 is.later r.3 is.last;
     }
 
 synced_among : (xs ys : List (List ℕ)) → Among xs ys → StepsAreSynced ys → StepsAreSynced xs
@@ -439,14 +453,16 @@ audit_is : (s : Setting) (events : List Happened) → lines_in (λ o. true) s ev
 audit_is s [] = refl
 audit_is s (h ∷ before) = ap₂ (λ (a b : List (List ℕ)). a ++ b) (audit_is s before) (same_lines s before h)
 
-audit_due : ReadingIsAccepted → EventsCanCome → StepsComeSynced → (asked : CommandLine) (input : List ℕ) (status : Status) (due : List ℕ) → ReachesNone input status due ⊎ StepsOf asked input status due → StepsAreSynced (lines_of due)
+audit_due : ReadingIsAccepted → EventsCanCome → StepsComeSynced → (asked : CommandLine) (input : List ℕ) (status : Status) (due : List ℕ)
+    → ReachesNone input status due ⊎ StepsOf asked input status due → StepsAreSynced (lines_of due)
 audit_due accepted can law asked input status due (inl none) = none_synced due (none_tells input status due none)
 audit_due accepted can law asked input status due (inr steps) =
     let s : Setting = steps.setting in
     let run : IsRun s steps.events = run_of can accepted asked input s steps.events steps.came in
     let lines : List (List ℕ) = looped.audit_lines s steps.events in
     let cut : lines_of due ≡ lines ++ lines_of steps.last =
-    ap lines_of (steps.is ∙ ap (λ (l : List ℕ). l ++ steps.last) (sym (steps_text s steps.events))) ∙ lines_behind lines steps.last (audit_whole s run.network steps.events) in
+    ap lines_of (steps.is ∙ ap (λ (l : List ℕ). l ++ steps.last) (sym (steps_text s steps.events)))
+    ∙ lines_behind lines steps.last (audit_whole s run.network steps.events) in
     let own : StepsAreSynced lines = subst StepsAreSynced (audit_is s steps.events) (law (λ o. true) s steps.events all_states run) in
     subst StepsAreSynced (sym cut)
     (behind lines (lines_of steps.last) own
@@ -460,40 +476,49 @@ event_other s h names each = counted (61 ∷ []) (event_text s.cfg h.event ∷ [
 loop_among : (s : Setting) (events : List Happened) → HasNames s.cfg → AllEvents s.cfg events → Among (loop_lines s events) (lines_in (λ o. true) s events)
 loop_among s [] names each = refl
 loop_among s (h ∷ before) names each =
-    among_append (loop_lines s before) (lines_in (λ o. true) s before) (marked_line s.cfg h.event ∷ steps_lines s before h) (lines_at (λ o. true) s before h) (loop_among s before names each.1)
+    among_append (loop_lines s before) (lines_in (λ o. true) s before) (marked_line s.cfg h.event ∷ steps_lines s before h) (lines_at (λ o. true) s before h)
+    (loop_among s before names each.1)
     (inl (event_other s h names (each.0, tt), subst (Among (steps_lines s before h)) (sym (same_lines s before h)) (among_all (steps_lines s before h))))
 
-behind_tells : (status : Status) (x : Plan) (calls later : List LinkCall) (last : Going) (text : List ℕ) → IsNetwork x.setting → StandsBehind status x calls later last text → AllByRecursion NoStep (lines_of text)
+behind_tells : (status : Status) (x : Plan) (calls later : List LinkCall) (last : Going) (text : List ℕ) → IsNetwork x.setting
+    → StandsBehind status x calls later last text → AllByRecursion NoStep (lines_of text)
 behind_tells Done x calls later last text net ends =
-    subst (λ (l : List ℕ). AllByRecursion NoStep (lines_of l)) (sym ends.2) (closing_tells x.setting net (world_after x.setting (events_at (place last))) (place last).forged)
+    subst (λ (l : List ℕ). AllByRecursion NoStep (lines_of l)) (sym ends.2)
+    (closing_tells x.setting net (world_after x.setting (events_at (place last))) (place last).forged)
 behind_tells TooLarge x calls later last text net ends = large event_limit text ends.2
 behind_tells LinkFault x calls later last text net ends = nothing text ends.1
 behind_tells OutOfMemory x calls later last text net ends = nothing text ends.1
 behind_tells status x calls later last text net ends = absurd ends
 
-loop_of : StepsComeSynced → (asked : CommandLine) (input : List ℕ) (calls : List LinkCall) (status : Status) (due : List ℕ) (loop : LoopOf asked input calls status due) →
+loop_of : StepsComeSynced
+    → (asked : CommandLine) (input : List ℕ) (calls : List LinkCall) (status : Status) (due : List ℕ) (loop : LoopOf asked input calls status due) →
     CarriesRun event_lines loop.setting (events_at (place loop.last)) → StepsAreSynced (lines_of due)
 loop_of law asked input calls status due loop carried =
     let s : Setting = loop.setting in
     let events : List Happened = events_at (place loop.last) in
     let net : IsNetwork s = carried.run.network in
     let cut : lines_of due ≡ loop_lines s events ++ lines_of loop.behind =
-    ap lines_of (loop.is ∙ ap (λ (l : List ℕ). l ++ loop.behind) (sym (came_text s events))) ∙ lines_behind (loop_lines s events) loop.behind (loop_whole s net events carried.run.each carried.fit) in
+    ap lines_of (loop.is ∙ ap (λ (l : List ℕ). l ++ loop.behind) (sym (came_text s events)))
+    ∙ lines_behind (loop_lines s events) loop.behind (loop_whole s net events carried.run.each carried.fit) in
     subst StepsAreSynced (sym cut)
     (behind (loop_lines s events) (lines_of loop.behind)
     (synced_among (loop_lines s events) (lines_in (λ o. true) s events) (loop_among s events net.accepted.names carried.run.each) (law (λ o. true) s events all_states carried.run))
     (behind_tells status (plan_of s loop.came.scene loop.came.seed) calls loop.came.later loop.last loop.behind net loop.ends))
 
-link_tells : (asked : CommandLine) (input : List ℕ) (calls : List LinkCall) (status : Status) (octets : List ℕ) → LacksLink asked input calls status octets → AllByRecursion NoStep (lines_of octets)
+link_tells : (asked : CommandLine) (input : List ℕ) (calls : List LinkCall) (status : Status) (octets : List ℕ) → LacksLink asked input calls status octets
+    → AllByRecursion NoStep (lines_of octets)
 link_tells asked input calls LinkFault octets lacks = nothing octets lacks.none
 link_tells asked input calls status octets lacks = absurd lacks
 
-loop_due : StepsComeSynced → (asked : CommandLine) (input : List ℕ) (calls : List LinkCall) (status : Status) (octets : List ℕ) → LoopHeadline asked input calls status octets → (other : Status) (due : List ℕ) →
+loop_due : StepsComeSynced → (asked : CommandLine) (input : List ℕ) (calls : List LinkCall) (status : Status) (octets : List ℕ)
+    → LoopHeadline asked input calls status octets → (other : Status) (due : List ℕ) →
     IsLoopDue asked input calls other due → StepsAreSynced (lines_of due)
 loop_due law asked input calls status octets head other due (inl none) = none_synced due (none_tells input other due none.0)
-loop_due law asked input calls status octets head other due (inr (inl scene)) = none_synced due (names_tells other scene.setting scene.front scene.line due scene.is)
+loop_due law asked input calls status octets head other due (inr (inl scene)) =
+    none_synced due (names_tells other scene.setting scene.front scene.line due scene.is)
 loop_due law asked input calls status octets head other due (inr (inr (inl link))) = none_synced due (link_tells asked input calls other due link)
-loop_due law asked input calls status octets head other due (inr (inr (inr loop))) = loop_of law asked input calls other due loop (head.carries loop.setting loop.last loop.came)
+loop_due law asked input calls status octets head other due (inr (inr (inr loop))) =
+    loop_of law asked input calls other due loop (head.carries loop.setting loop.last loop.came)
 
 -- A simulation
 
@@ -534,24 +559,28 @@ run_whole s names (h ∷ before) =
 printed_states : PrintsStates is_printed
 printed_states = record { steps = λ cycles. refl; states = λ state. refl }
 
-after_tells : (asked : CommandLine) (input : List ℕ) (status : Status) (due : List ℕ) (run : RunOf asked input status due) → IsNetwork run.setting → AllByRecursion NoStep (lines_of run.last)
+after_tells : (asked : CommandLine) (input : List ℕ) (status : Status) (due : List ℕ) (run : RunOf asked input status due) → IsNetwork run.setting
+    → AllByRecursion NoStep (lines_of run.last)
 after_tells asked input Done due run net = sums_tell run.setting net run.events run.last run.ends.1
 after_tells asked input TooLarge due run net = large (length run.events + 1) run.last run.ends.3
 after_tells asked input OutOfMemory due run net = nothing run.last run.ends
 after_tells asked input status due run net = absurd run.ends
 
-sim_of : StepsComeSynced → (asked : CommandLine) (input : List ℕ) (status : Status) (due : List ℕ) (run : RunOf asked input status due) → CarriesRun run_lines run.setting run.events → StepsAreSynced (lines_of due)
+sim_of : StepsComeSynced → (asked : CommandLine) (input : List ℕ) (status : Status) (due : List ℕ) (run : RunOf asked input status due)
+    → CarriesRun run_lines run.setting run.events → StepsAreSynced (lines_of due)
 sim_of law asked input status due run carried =
     let s : Setting = run.setting in
     let net : IsNetwork s = carried.run.network in
     let lines : List (List ℕ) = lines_in is_printed s run.events in
     let cut : lines_of due ≡ lines ++ lines_of run.last =
-    ap lines_of (run.is ∙ ap (λ (l : List ℕ). l ++ run.last) (sym (run_text s run.events))) ∙ lines_behind lines run.last (run_whole s net.accepted.names run.events) in
+    ap lines_of (run.is ∙ ap (λ (l : List ℕ). l ++ run.last) (sym (run_text s run.events)))
+    ∙ lines_behind lines run.last (run_whole s net.accepted.names run.events) in
     subst StepsAreSynced (sym cut)
     (behind lines (lines_of run.last) (law is_printed s run.events printed_states carried.run)
     (after_tells asked input status due run net))
 
-sim_due : StepsComeSynced → (asked : CommandLine) (input : List ℕ) (status : Status) (octets : List ℕ) → SimHeadline asked input status octets → (other : Status) (due : List ℕ) →
+sim_due : StepsComeSynced → (asked : CommandLine) (input : List ℕ) (status : Status) (octets : List ℕ) → SimHeadline asked input status octets
+    → (other : Status) (due : List ℕ) →
     ReachesNone input other due ⊎ (LacksScenario asked input other due ⊎ RunOf asked input other due) → StepsAreSynced (lines_of due)
 sim_due law asked input status octets head other due (inl none) = none_synced due (none_tells input other due none)
 sim_due law asked input status octets head other due (inr (inl scene)) = none_synced due (names_tells other scene.setting scene.front scene.line due scene.is)
@@ -580,7 +609,8 @@ audits_synced laws run status ends audits = go run.source.before (headline_told 
     go (Some input) h =
         (h.0, h.1, prints_synced (λ due text. ReachesNone input due text ⊎ StepsOf run.asked input due text) (audit_due laws.accepted laws.can laws.law run.asked input) status h.0 h.2.prints)
 
-simulations_synced : SyncLaws → (run : Run) (status : Status) (seed : ℕ) → Ends run status → IsSimulation run.asked seed → IfSome run.source.before (SyncedSo run)
+simulations_synced : SyncLaws → (run : Run) (status : Status) (seed : ℕ) → Ends run status → IsSimulation run.asked seed
+    → IfSome run.source.before (SyncedSo run)
 simulations_synced laws run status seed ends simulates = go run.source.before (simulation_told laws.simulations run status seed ends simulates)
   where
     go : (o : Option (List ℕ)) → IfSome o (IsMadeSo run.asked run.sink.before run.sink.now status) → IfSome o (SyncedSo run)

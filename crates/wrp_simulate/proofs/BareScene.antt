@@ -66,7 +66,8 @@ fault_read cfg fields = rw (kind_bare cfg fields (field_of 3 fields)) refl
 
 -- Lines
 
-line_bare : (cfg : NetCfg) (scene : SceneAt) (kind : SceneKind) (fields : List (List ℕ)) → line_of_kind (bare_cfg cfg) scene kind fields ≡ line_of_kind cfg scene kind fields
+line_bare : (cfg : NetCfg) (scene : SceneAt) (kind : SceneKind) (fields : List (List ℕ))
+    → line_of_kind (bare_cfg cfg) scene kind fields ≡ line_of_kind cfg scene kind fields
 line_bare cfg scene kinds.Length fields = refl
 line_bare cfg scene kinds.Fibre fields = rw (link_read cfg 2 fields) refl
 line_bare cfg scene kinds.Offset fields = rw (lower_read cfg 2 fields) refl
@@ -75,7 +76,8 @@ line_bare cfg scene kinds.Loss fields = refl
 line_bare cfg scene kinds.Repeat fields = refl
 line_bare cfg scene kinds.Fault fields = rw (fault_read cfg fields) refl
 
-counted_bare : (cfg : NetCfg) (scene : SceneAt) (fields : List (List ℕ)) (kind : Option SceneKind) → counted_of (bare_cfg cfg) scene fields kind ≡ counted_of cfg scene fields kind
+counted_bare : (cfg : NetCfg) (scene : SceneAt) (fields : List (List ℕ)) (kind : Option SceneKind)
+    → counted_of (bare_cfg cfg) scene fields kind ≡ counted_of cfg scene fields kind
 counted_bare cfg scene fields None = refl
 counted_bare cfg scene fields (Some kind) = rw (line_bare cfg scene kind fields) refl
 

@@ -52,7 +52,8 @@ nodes_count s = length-map s.cfg.nodes.items bare_node
 pub links_count : (s : Setting) → link_count (bare_cfg s.cfg) ≡ link_count s.cfg
 links_count s = length-map s.cfg.links.items bare_link
 
-kappa_over : (o : Option LinkCfg) → option_map_or (λ (link : LinkCfg). link.kappa) (option_map bare_link o) (pos 0) ≡ option_map_or (λ (link : LinkCfg). link.kappa) o (pos 0)
+kappa_over : (o : Option LinkCfg)
+    → option_map_or (λ (link : LinkCfg). link.kappa) (option_map bare_link o) (pos 0) ≡ option_map_or (λ (link : LinkCfg). link.kappa) o (pos 0)
 kappa_over None = refl
 kappa_over (Some link) = refl
 
@@ -125,7 +126,8 @@ raws_bare s = λ i w k r.
     (λ (end : End). if is_tellable s (reading w end.node) then Some (true_raw s (transition_of (firsts_bare s i k r)) (reading w end.node)) else None)
     (ends_bare s i k r)
 
-arrives_bare : (scene : SceneAt) (s : Setting) (w : WorldAt) (due : Option (ℕ × ℤ)) (at : SimAt) → arrives scene (bare_setting s) w due at ≡ arrives scene s w due at
+arrives_bare : (scene : SceneAt) (s : Setting) (w : WorldAt) (due : Option (ℕ × ℤ)) (at : SimAt)
+    → arrives scene (bare_setting s) w due at ≡ arrives scene s w due at
 arrives_bare scene s w due at = λ i.
     option_and_then
     (λ (next : ℕ × ℤ).
@@ -145,7 +147,8 @@ passed scene s w due at nodes =
     (map at.tick_at (filter (λ n. (w.clock n).up) nodes) ++ (due_times due ++ (map (fault_time s) at.faults ++ (end_time scene s ∷ []))))
     -ℤ w.time
 
-passes_bare : (scene : SceneAt) (s : Setting) (w : WorldAt) (due : Option (ℕ × ℤ)) (at : SimAt) → passes scene (bare_setting s) w due at ≡ passes scene s w due at
+passes_bare : (scene : SceneAt) (s : Setting) (w : WorldAt) (due : Option (ℕ × ℤ)) (at : SimAt)
+    → passes scene (bare_setting s) w due at ≡ passes scene s w due at
 passes_bare scene s w due at = λ i.
     if is_over scene s w then None
     else comes
@@ -161,7 +164,8 @@ passes_bare scene s w due at = λ i.
     (record { items = map (λ k. (pos 0, pos 0)) (from_on (links_count s i) 0) }))
     at
 
-next_bare : (scene : SceneAt) (s : Setting) (w : WorldAt) (due : Option (ℕ × ℤ)) (at : SimAt) → next_of scene (bare_setting s) w due at ≡ next_of scene s w due at
+next_bare : (scene : SceneAt) (s : Setting) (w : WorldAt) (due : Option (ℕ × ℤ)) (at : SimAt)
+    → next_of scene (bare_setting s) w due at ≡ next_of scene s w due at
 next_bare scene s w due at = λ i. first_of (
     begins_bare scene s w at i
     ∷ (fails_bare scene s w at i
@@ -181,12 +185,14 @@ pub gives_after : (scene : SceneAt) (s : Setting) (events : List Happened) (at :
 gives_after scene s events at next g =
     subst (λ (w : WorldAt). Gives scene (bare_setting s) w at next) (sym (after_bare s events)) (gives_bare scene s (world_after s events) at next g)
 
-run_bare : (scene : SceneAt) (s : Setting) (seed : ℕ) (events : List Happened) (at : SimAt) → IsSimRun scene s seed events at → IsSimRun scene (bare_setting s) seed events at
+run_bare : (scene : SceneAt) (s : Setting) (seed : ℕ) (events : List Happened) (at : SimAt) → IsSimRun scene s seed events at
+    → IsSimRun scene (bare_setting s) seed events at
 run_bare scene s seed [] at p = p
 run_bare scene s seed (h ∷ before) at p =
     (p.0, run_bare scene s seed before p.0 p.1, gives_after scene s before p.0 (Some (record { event = h.event; at = at })) p.2)
 
-changes_bare : (s : Setting) (scene : SceneAt) (lines : List (List ℕ)) (last : SceneAt) → Changes s.cfg scene lines last → Changes (bare_cfg s.cfg) scene lines last
+changes_bare : (s : Setting) (scene : SceneAt) (lines : List (List ℕ)) (last : SceneAt) → Changes s.cfg scene lines last
+    → Changes (bare_cfg s.cfg) scene lines last
 changes_bare s scene [] last p = p
 changes_bare s scene (line ∷ lines) last p = (p.0, scene_bare s.cfg scene line ∙ p.1, changes_bare s p.0 lines last p.2)
 
@@ -240,11 +246,13 @@ sums_bare s events = λ i. flat_map (sum_bare s events i) (nodes_bare s i)
 
 -- What is due
 
-pub refuses_bare : (s : Setting) (lines : List (List ℕ)) (line last : List ℕ) (refusal : Refusal) → SimRefuses s lines line refusal last → SimRefuses (bare_setting s) lines line refusal last
+pub refuses_bare : (s : Setting) (lines : List (List ℕ)) (line last : List ℕ) (refusal : Refusal) → SimRefuses s lines line refusal last
+    → SimRefuses (bare_setting s) lines line refusal last
 refuses_bare s lines line last refusals.BadTrace h = (h.0, said_bare s lines h.0 h.1, h.2, scene_bare s.cfg h.0 line ∙ h.3, h.4)
 refuses_bare s lines line last refusals.Broken h = h
 
-breaks_bare : (s : Setting) (seed : ℕ) (lines : List (List ℕ)) (status : Status) (last : List ℕ) → SimBreaks s seed lines status last → SimBreaks (bare_setting s) seed lines status last
+breaks_bare : (s : Setting) (seed : ℕ) (lines : List (List ℕ)) (status : Status) (last : List ℕ) → SimBreaks s seed lines status last
+    → SimBreaks (bare_setting s) seed lines status last
 unfolding simulates_bare
 breaks_bare s seed lines TooLarge last h = (
   simulates_bare s seed lines h.0,
@@ -266,7 +274,8 @@ closes_bare s seed lines last h = (
   h.2 ∙ ap₂ (λ (lines sums : List ℕ). lines ++ sums) (sym (lines_bare s h.0.events)) (sym (sums_bare s h.0.events)),
 )
 
-pub bare_simulation : (s : Setting) (seed : ℕ) (lines : List (List ℕ)) (status : Status) (octets : List ℕ) → RecordsAnswer (simulation_of s seed) lines status octets → RecordsAnswer (simulation_of (bare_setting s) seed) lines status octets
+pub bare_simulation : (s : Setting) (seed : ℕ) (lines : List (List ℕ)) (status : Status) (octets : List ℕ)
+    → RecordsAnswer (simulation_of s seed) lines status octets → RecordsAnswer (simulation_of (bare_setting s) seed) lines status octets
 bare_simulation s seed = due_so (simulation_of s seed) (simulation_of (bare_setting s) seed) (record {
   accepts = λ lines text h. (h.0, said_bare s lines h.0 h.1, h.2);
   refuses = refuses_bare s;

@@ -73,7 +73,8 @@ fault_fits scene s w at (kind.Cut k) = tt
 fault_fits scene s w at (kind.Join k) = tt
 
 fails_fit : (scene : SceneAt) (s : Setting) (w : WorldAt) (at : SimAt) → FitsIf (fails scene s w at)
-fails_fit scene s w at = then_fits (λ (f : Fault). fault_of scene s w (rest_of s w at) f.kind) (next_fault s w at.faults) (λ f. fault_fits scene s w (rest_of s w at) f.kind)
+fails_fit scene s w at =
+    then_fits (λ (f : Fault). fault_of scene s w (rest_of s w at) f.kind) (next_fault s w at.faults) (λ f. fault_fits scene s w (rest_of s w at) f.kind)
 
 bits_small : (zeros : ℕ) → bits_behind zeros < 2 ^ 64
 bits_small zeros =
@@ -103,9 +104,12 @@ few_ports n (suc count) first h = (omega (arith, h), few_ports n count (first + 
 
 all_ports : (nodes : List ℕ) → AllByRecursion IsSmall (flat_map (λ n. map (λ p. (n, p)) (from_on 18 1)) nodes)
 all_ports [] = tt
-all_ports (n ∷ nodes) = all_append IsSmall (map (λ p. (n, p)) (from_on 18 1)) (flat_map (λ m. map (λ p. (m, p)) (from_on 18 1)) nodes) (few_ports n 18 1 (omega arith)) (all_ports nodes)
+all_ports (n ∷ nodes) =
+    all_append IsSmall (map (λ p. (n, p)) (from_on 18 1)) (flat_map (λ m. map (λ p. (m, p)) (from_on 18 1)) nodes) (few_ports n 18 1 (omega arith))
+    (all_ports nodes)
 
-found_fits : (s : Setting) (w : WorldAt) (at : SimAt) (p : ℕ × ℕ → Bool) (ports : List (ℕ × ℕ)) → AllByRecursion IsSmall ports → FitsIf (option_and_then (departs_from s w at) (find p ports))
+found_fits : (s : Setting) (w : WorldAt) (at : SimAt) (p : ℕ × ℕ → Bool) (ports : List (ℕ × ℕ)) → AllByRecursion IsSmall ports
+    → FitsIf (option_and_then (departs_from s w at) (find p ports))
 found_fits s w at p [] h = tt
 found_fits s w at p (port ∷ ports) h =
     elim (p port) as (λ b. FitsIf (option_and_then (departs_from s w at) (cond b (Some port) (find p ports)))) [
@@ -118,7 +122,8 @@ departs_fit s w at = found_fits s w at (departs_now s w) (ports_of s) (all_ports
 
 delivers_fit : (at : SimAt) → FitsIf (delivers at)
 delivers_fit at =
-    if_fits (nat_lt 0 at.arrived.times) (comes (Deliver at.arrived.frame) (record at { arrived = record at.arrived { times = at.arrived.times - 1 } })) None tt tt
+    if_fits (nat_lt 0 at.arrived.times)
+    (comes (Deliver at.arrived.frame) (record at { arrived = record at.arrived { times = at.arrived.times - 1 } })) None tt tt
 
 arrives_fit : (scene : SceneAt) (s : Setting) (w : WorldAt) (due : Option (ℕ × ℤ)) (at : SimAt) → FitsIf (arrives scene s w due at)
 arrives_fit scene s w due at =
@@ -163,22 +168,27 @@ later : (n i : ℕ) (o : Option FrameAt) → IfSome o (λ (f : FrameAt). i ≤ n
 later n i None h = tt
 later n i (Some f) h = omega (arith, h)
 
-departing_if : (n i : ℕ) (b : Bool) (f : FrameAt) (o : Option FrameAt) → (b ≡ true → i ≤ n + 1) → IfSome o (λ (g : FrameAt). i ≤ n) → IfSome (if b then Some f else o) (λ (g : FrameAt). i ≤ n + 1)
+departing_if : (n i : ℕ) (b : Bool) (f : FrameAt) (o : Option FrameAt) → (b ≡ true → i ≤ n + 1) → IfSome o (λ (g : FrameAt). i ≤ n)
+    → IfSome (if b then Some f else o) (λ (g : FrameAt). i ≤ n + 1)
 departing_if n i true f o h k = h refl
 departing_if n i false f o h k = later n i o k
 
-departing_numbered : (w : WorldAt) (n : ℕ) (place : Option Place) (stamp : ℤ) (queue : List Sending) (i : ℕ) → AreNumbered n w → IfSome (departing w place stamp queue i) (λ (f : FrameAt). i ≤ n + 1)
+departing_numbered : (w : WorldAt) (n : ℕ) (place : Option Place) (stamp : ℤ) (queue : List Sending) (i : ℕ) → AreNumbered n w
+    → IfSome (departing w place stamp queue i) (λ (f : FrameAt). i ≤ n + 1)
 departing_numbered w n None stamp queue i h = later n i (w.frame i) (h.frames i)
 departing_numbered w n (Some place) stamp [] i h = later n i (w.frame i) (h.frames i)
 departing_numbered w n (Some place) stamp (oldest ∷ rest) i h =
-    departing_if n i (i == (w.departed + 1)) _ (w.frame i) (λ is. let same : i ≡ w.departed + 1 = eqb-true i (w.departed + 1) is in let few = h.departed in omega (arith, same, few)) (h.frames i)
+    departing_if n i (i == (w.departed + 1)) _ (w.frame i)
+    (λ is. let same : i ≡ w.departed + 1 = eqb-true i (w.departed + 1) is in let few = h.departed in omega (arith, same, few)) (h.frames i)
 
-arrived_numbered : (s : Setting) (w : WorldAt) (n j : ℕ) (raw : Raw) (g : Option FrameAt) (i : ℕ) (o : Option FrameAt) → IfSome o (λ (f : FrameAt). i ≤ n) → IfSome (arrived s w j raw g i o) (λ (f : FrameAt). i ≤ n + 1)
+arrived_numbered : (s : Setting) (w : WorldAt) (n j : ℕ) (raw : Raw) (g : Option FrameAt) (i : ℕ) (o : Option FrameAt) → IfSome o (λ (f : FrameAt). i ≤ n)
+    → IfSome (arrived s w j raw g i o) (λ (f : FrameAt). i ≤ n + 1)
 arrived_numbered s w n j raw None i o h = later n i o h
 arrived_numbered s w n j raw (Some g) i None h = tt
 arrived_numbered s w n j raw (Some g) i (Some f) h = omega (arith, h)
 
-removed_numbered : (s : Setting) (e : Event) (n i : ℕ) (o : Option FrameAt) → IfSome o (λ (f : FrameAt). i ≤ n) → IfSome (option_map (removed s e) o) (λ (f : FrameAt). i ≤ n + 1)
+removed_numbered : (s : Setting) (e : Event) (n i : ℕ) (o : Option FrameAt) → IfSome o (λ (f : FrameAt). i ≤ n)
+    → IfSome (option_map (removed s e) o) (λ (f : FrameAt). i ≤ n + 1)
 removed_numbered s e n i None h = tt
 removed_numbered s e n i (Some f) h = omega (arith, h)
 
@@ -220,7 +230,8 @@ numbered s (h ∷ before) =
     (given_numbered s h.answer (length before + 1) (given_by s w (moved s w h.event) h.says h.event) (moved s w h.event) (moved_numbered s w h.event (length before) (numbered s before)))
 
 -- a frame that arrives, or that is handed over, is there
-arrives_there : (s : Setting) (w : WorldAt) (i : ℕ) (raw : Raw) (n : ℕ) (b : Bool) (o : Option FrameAt) → AllHold (arrive_checks s w i raw b o) → IfSome o (λ (f : FrameAt). i ≤ n) → i ≤ n
+arrives_there : (s : Setting) (w : WorldAt) (i : ℕ) (raw : Raw) (n : ℕ) (b : Bool) (o : Option FrameAt) → AllHold (arrive_checks s w i raw b o)
+    → IfSome o (λ (f : FrameAt). i ≤ n) → i ≤ n
 arrives_there s w i raw n true (Some f) holds h = h
 arrives_there s w i raw n false (Some f) holds h = h
 arrives_there s w i raw n true None holds h = absurd (let f : true ≡ false = holds.0 in cc)
@@ -232,8 +243,10 @@ delivers_there s w i n None holds h = absurd (let f : true ≡ false = holds.0 i
 
 -- All events
 
-pub event_fits : (s : Setting) (w : WorldAt) (says : Result PtpMsg FrameFault) (e : Event) (n : ℕ) → AreNumbered n w → n < 2 ^ 32 → Accepts s w says e → FitsSave e → FitsEvent e
-event_fits s w says (Arrive i raw) n h few accepted fits = below_word i n (arrives_there s w i raw n (is_on_fibre (w.frame i)) (w.frame i) accepted (h.frames i)) few
+pub event_fits : (s : Setting) (w : WorldAt) (says : Result PtpMsg FrameFault) (e : Event) (n : ℕ) → AreNumbered n w → n < 2 ^ 32 → Accepts s w says e
+    → FitsSave e → FitsEvent e
+event_fits s w says (Arrive i raw) n h few accepted fits =
+    below_word i n (arrives_there s w i raw n (is_on_fibre (w.frame i)) (w.frame i) accepted (h.frames i)) few
 event_fits s w says (Deliver i) n h few accepted fits = below_word i n (delivers_there s w i n (w.frame i) accepted (h.frames i)) few
 event_fits s w says (Pass dt drifts fibres) n h few accepted fits = fits
 event_fits s w says (Tick m) n h few accepted fits = fits
@@ -249,7 +262,8 @@ pub fewer : (h : Happened) (before : List Happened) → length (h ∷ before) < 
 fewer h before few = omega (arith, few)
 
 -- so it is with each event that is made
-pub made_fit : (scene : SceneAt) (s : Setting) (seed : ℕ) (events : List Happened) (at : SimAt) → IsSimRun scene s seed events at → AllAccepted s events → length events < 2 ^ 32 → AllFit events
+pub made_fit : (scene : SceneAt) (s : Setting) (seed : ℕ) (events : List Happened) (at : SimAt) → IsSimRun scene s seed events at → AllAccepted s events
+    → length events < 2 ^ 32 → AllFit events
 made_fit scene s seed [] at run accepted few = tt
 made_fit scene s seed (h ∷ before) at run accepted few = (
   event_fits s (world_after s before) h.says h.event (length before) (numbered s before) (fewer h before few) accepted.0 (given_fits scene s (world_after s before) run.0 at h.event run.2),

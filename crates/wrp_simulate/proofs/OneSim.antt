@@ -44,7 +44,8 @@ record OneRun (a b : List Happened) (x y : SimAt) : Type 0 where
   same : SameEvents a b
   at : x ≡ y
 
-one_run : ToldLast → (scene : SceneAt) (s : Setting) (seed : ℕ) (a b : List Happened) (x y : SimAt) → IsSimRun scene s seed a x → IsSimRun scene s seed b y → Told s a → Told s b → length a ≡ length b → OneRun a b x y
+one_run : ToldLast → (scene : SceneAt) (s : Setting) (seed : ℕ) (a b : List Happened) (x y : SimAt) → IsSimRun scene s seed a x → IsSimRun scene s seed b y
+    → Told s a → Told s b → length a ≡ length b → OneRun a b x y
 one_run last scene s seed [] [] x y p q t u size = record { same = tt; at = p ∙ sym q }
 one_run last scene s seed [] (k ∷ b) x y p q t u size = absurd (omega (arith, size))
 one_run last scene s seed (h ∷ a) [] x y p q t u size = absurd (omega (arith, size))
@@ -107,7 +108,8 @@ record Shorter (scene : SceneAt) (s : Setting) (seed size : ℕ) : Type 0 where
   next : Next
   comes : Gives scene s (world_after s events) at (Some next)
 
-shorter : (scene : SceneAt) (s : Setting) (seed size : ℕ) (events : List Happened) (x : SimAt) → IsSimRun scene s seed events x → Told s events → size < length events → Shorter scene s seed size
+shorter : (scene : SceneAt) (s : Setting) (seed size : ℕ) (events : List Happened) (x : SimAt) → IsSimRun scene s seed events x → Told s events
+    → size < length events → Shorter scene s seed size
 shorter scene s seed size [] x p t less = absurd (omega (arith, less))
 shorter scene s seed size (h ∷ events) x p t less =
     go (nat_lt size (length events)) refl (λ fewer. shorter scene s seed size events p.0 p.1 (told_before s h events t) fewer)
@@ -125,7 +127,8 @@ shorter scene s seed size (h ∷ events) x p t less =
     }
 
 -- no run is longer than one that is over
-not_longer : ToldLast → (scene : SceneAt) (s : Setting) (seed : ℕ) (a b : List Happened) (x y : SimAt) → IsSimRun scene s seed a x → Told s a → Gives scene s (world_after s a) x None →
+not_longer : ToldLast → (scene : SceneAt) (s : Setting) (seed : ℕ) (a b : List Happened) (x y : SimAt) → IsSimRun scene s seed a x → Told s a
+    → Gives scene s (world_after s a) x None →
     IsSimRun scene s seed b y → Told s b → length a < length b → ⊥
 not_longer last scene s seed a b x y p t over q u less =
     let part : Shorter scene s seed (length a) = shorter scene s seed (length a) b y q u less in
@@ -160,9 +163,11 @@ moved_run s seed lines p q =
 told_at : (s : Setting) (seed : ℕ) (lines : List (List ℕ)) (p : Simulates s seed lines) → Told s p.events
 told_at s seed lines p = told_of s p.scene seed p.events p.at p.simulated
 
-never_longer : ToldLast → (s : Setting) (seed : ℕ) (lines : List (List ℕ)) (p q : Simulates s seed lines) → IsOver s seed lines p → length p.events < length q.events → ⊥
+never_longer : ToldLast → (s : Setting) (seed : ℕ) (lines : List (List ℕ)) (p q : Simulates s seed lines) → IsOver s seed lines p
+    → length p.events < length q.events → ⊥
 never_longer last s seed lines p q over less =
-    not_longer last p.scene s seed p.events q.events p.at q.at p.simulated.run (told_at s seed lines p) over (moved_run s seed lines p q) (told_at s seed lines q) less
+    not_longer last p.scene s seed p.events q.events p.at q.at p.simulated.run (told_at s seed lines p) over (moved_run s seed lines p q)
+    (told_at s seed lines q) less
 
 -- runs of one length
 record Both (s : Setting) (seed : ℕ) (lines : List (List ℕ)) (p q : Simulates s seed lines) : Type 0 where
@@ -174,7 +179,8 @@ record Both (s : Setting) (seed : ℕ) (lines : List (List ℕ)) (p q : Simulate
 both_of : ToldLast → (s : Setting) (seed : ℕ) (lines : List (List ℕ)) (p q : Simulates s seed lines) → length p.events ≡ length q.events → Both s seed lines p q
 both_of last s seed lines p q size =
     let one : OneRun p.events q.events p.at q.at =
-    one_run last p.scene s seed p.events q.events p.at q.at p.simulated.run (moved_run s seed lines p q) (told_at s seed lines p) (told_at s seed lines q) size in
+    one_run last p.scene s seed p.events q.events p.at q.at p.simulated.run (moved_run s seed lines p q) (told_at s seed lines p)
+    (told_at s seed lines q) size in
     record {
       text = lines_one last s p.events q.events one.same (told_at s seed lines p) (told_at s seed lines q);
       sums = sums_one last s p.events q.events one.same (told_at s seed lines p) (told_at s seed lines q);
@@ -199,10 +205,12 @@ not_both_ends last s seed lines p q over run = go (nat_lt (length p.events) (len
         (subst (λ (o : SimAt). Gives p.scene s (world_after s q.events) o (Some run.next)) (sym both.at)
         (subst (λ (n : SceneAt). Gives n s (world_after s q.events) q.at (Some run.next)) scene run.comes)))
 
-ends_one : ToldLast → (s : Setting) (seed : ℕ) (lines : List (List ℕ)) (a b : Status) (t u : List ℕ) → EndsWith (simulation_of s seed) lines a t → EndsWith (simulation_of s seed) lines b u → (a ≡ b) × (t ≡ u)
+ends_one : ToldLast → (s : Setting) (seed : ℕ) (lines : List (List ℕ)) (a b : Status) (t u : List ℕ) → EndsWith (simulation_of s seed) lines a t
+    → EndsWith (simulation_of s seed) lines b u → (a ≡ b) × (t ≡ u)
 ends_one last s seed lines Done Done t u p q =
     let both : Both s seed lines p.0 q.0 =
-    both_of last s seed lines p.0 q.0 (same_size (length p.0.events) (length q.0.events) (never_longer last s seed lines p.0 q.0 p.1) (never_longer last s seed lines q.0 p.0 q.1)) in
+    both_of last s seed lines p.0 q.0
+    (same_size (length p.0.events) (length q.0.events) (never_longer last s seed lines p.0 q.0 p.1) (never_longer last s seed lines q.0 p.0 q.1)) in
     (refl, p.2 ∙ ap₂ (λ (lines sums : List ℕ). lines ++ sums) both.text both.sums ∙ sym q.2)
 ends_one last s seed lines Done TooLarge t u p q = absurd (not_both_ends last s seed lines p.0 q.0 p.1 q.1)
 ends_one last s seed lines TooLarge Done t u p q = absurd (not_both_ends last s seed lines q.0 p.0 q.1 p.1)

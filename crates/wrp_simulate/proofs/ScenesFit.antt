@@ -36,13 +36,15 @@ sum_fits cfg place fields sum e =
 offset_fits : (place : ℕ) (fields : List (List ℕ)) (ns : ℤ) → ns_at place fields ≡ Ok ns → IsOffset (off_of_ns ns)
 offset_fits place fields ns e =
     let range : (negsuc 999_999_999_999 ≤ℤ ns) × (ns ≤ℤ pos 1_000_000_000_000) =
-    number_in_range (negsuc 999_999_999_999) (pos 1_000_000_000_000) (field_of place fields) ns (found (Number place) (number_in (negsuc 999_999_999_999) (pos 1_000_000_000_000) (field_of place fields)) ns e) in
+    number_in_range (negsuc 999_999_999_999) (pos 1_000_000_000_000) (field_of place fields) ns
+    (found (Number place) (number_in (negsuc 999_999_999_999) (pos 1_000_000_000_000) (field_of place fields)) ns e) in
     omega (arith, ints, range.0, range.1)
 
 free_fits : (place : ℕ) (fields : List (List ℕ)) (rate : ℤ) → rate_at place fields ≡ Ok rate → IsFree rate
 free_fits place fields rate e =
     let range : (negsuc 99_999 ≤ℤ rate) × (rate ≤ℤ pos 100_000) =
-    number_in_range (negsuc 99_999) (pos 100_000) (field_of place fields) rate (found (Number place) (number_in (negsuc 99_999) (pos 100_000) (field_of place fields)) rate e) in
+    number_in_range (negsuc 99_999) (pos 100_000) (field_of place fields) rate
+    (found (Number place) (number_in (negsuc 99_999) (pos 100_000) (field_of place fields)) rate e) in
     omega (arith, ints, range.0, range.1)
 
 lower_fits : (cfg : NetCfg) (place : ℕ) (fields : List (List ℕ)) (n : ℕ) → lower_at cfg place fields ≡ Ok n → is_none (link_above cfg n) ≡ false
@@ -52,19 +54,23 @@ lower_fits cfg place fields n e =
     none_if (is_none (link_above cfg it.first)) it.first n (found (Name place) (if is_none (link_above cfg it.first) then None else Some it.first) n it.rest) in
     subst (λ m. is_none (link_above cfg m) ≡ false) parts.1 parts.0
 
-node_fault_fits : (cfg : NetCfg) (fields : List (List ℕ)) (kind : ℕ → FaultKind) (k : FaultKind) → ((n : ℕ) → n < node_count cfg → IsFaultKind cfg (kind n)) → node_fault cfg fields kind ≡ Ok k → IsFaultKind cfg k
+node_fault_fits : (cfg : NetCfg) (fields : List (List ℕ)) (kind : ℕ → FaultKind) (k : FaultKind) → ((n : ℕ) → n < node_count cfg → IsFaultKind cfg (kind n))
+    → node_fault cfg fields kind ≡ Ok k → IsFaultKind cfg k
 node_fault_fits cfg fields kind k fits e =
     let it = both (node_at cfg 4 fields) (λ node. Ok (kind node)) k e in
     subst (IsFaultKind cfg) (ok_same (kind it.first) k it.rest) (fits it.first (node_there cfg 4 fields it.first it.is))
 
-link_fault_fits : (cfg : NetCfg) (fields : List (List ℕ)) (kind : ℕ → FaultKind) (k : FaultKind) → ((l : ℕ) → l < link_count cfg → IsFaultKind cfg (kind l)) → link_fault cfg fields kind ≡ Ok k → IsFaultKind cfg k
+link_fault_fits : (cfg : NetCfg) (fields : List (List ℕ)) (kind : ℕ → FaultKind) (k : FaultKind) → ((l : ℕ) → l < link_count cfg → IsFaultKind cfg (kind l))
+    → link_fault cfg fields kind ≡ Ok k → IsFaultKind cfg k
 link_fault_fits cfg fields kind k fits e =
     let it = both (link_at cfg 4 fields) (λ link. Ok (kind link)) k e in
     subst (IsFaultKind cfg) (ok_same (kind it.first) k it.rest) (fits it.first (link_there cfg 4 fields it.first it.is))
 
 -- the word of a fault is one of four
 of_four : (cfg : NetCfg) (fields : List (List ℕ)) (down up cut join : Bool) (k : FaultKind) →
-    (if down then node_fault cfg fields Down else if up then node_fault cfg fields Up else if cut then link_fault cfg fields Cut else if join then link_fault cfg fields Join else Err (Name 3)) ≡ Ok k → IsFaultKind cfg k
+    (if down then node_fault cfg fields Down else if up then node_fault cfg fields Up else if cut then link_fault cfg fields Cut else if join then link_fault cfg fields Join else Err (Name 3))
+    ≡ Ok k
+    → IsFaultKind cfg k
 of_four cfg fields true up cut join k e = node_fault_fits cfg fields Down k (λ n is. is) e
 of_four cfg fields false true cut join k e = node_fault_fits cfg fields Up k (λ n is. is) e
 of_four cfg fields false false true join k e = link_fault_fits cfg fields Cut k (λ l is. is) e
@@ -82,7 +88,9 @@ fault_fits cfg fields fault e =
     subst (IsFault cfg) (ok_same (record { at = tau_of_ms a.first; kind = b.first }) fault b.rest)
     (record {
       at = time_fits a.first (number_read 0 10_000_000 2 fields a.first a.is).1;
-      kind = of_four cfg fields (same_name word (codes "down")) (same_name word (codes "up")) (same_name word (codes "cut")) (same_name word (codes "join")) b.first b.is;
+      kind =
+          of_four cfg fields (same_name word (codes "down")) (same_name word (codes "up")) (same_name word (codes "cut"))
+          (same_name word (codes "join")) b.first b.is;
     })
 
 -- Lines
@@ -100,14 +108,17 @@ fibre_fits cfg scene next fields is e =
     subst (IsSceneOf cfg) (ok_same (record scene { sums = slice_set scene.sums a.first b.first }) next b.rest)
     (scenes.with_sum cfg scene a.first b.first (sum_fits cfg 3 fields b.first b.is) is)
 
-offset_line_fits : (cfg : NetCfg) (scene next : SceneAt) (fields : List (List ℕ)) → IsSceneOf cfg scene → offset_line cfg scene fields ≡ Ok next → IsSceneOf cfg next
+offset_line_fits : (cfg : NetCfg) (scene next : SceneAt) (fields : List (List ℕ)) → IsSceneOf cfg scene → offset_line cfg scene fields ≡ Ok next
+    → IsSceneOf cfg next
 offset_line_fits cfg scene next fields is e =
-    let a = both (lower_at cfg 2 fields) (λ node. ns_at 3 fields >>= (λ ns. Ok (record scene { offsets = slice_set scene.offsets node (off_of_ns ns) }))) next e in
+    let a =
+    both (lower_at cfg 2 fields) (λ node. ns_at 3 fields >>= (λ ns. Ok (record scene { offsets = slice_set scene.offsets node (off_of_ns ns) }))) next e in
     let b = both (ns_at 3 fields) (λ ns. Ok (record scene { offsets = slice_set scene.offsets a.first (off_of_ns ns) })) next a.rest in
     subst (IsSceneOf cfg) (ok_same (record scene { offsets = slice_set scene.offsets a.first (off_of_ns b.first) }) next b.rest)
     (scenes.with_offset cfg scene a.first (off_of_ns b.first) (lower_fits cfg 2 fields a.first a.is) (offset_fits 3 fields b.first b.is) is)
 
-free_line_fits : (cfg : NetCfg) (scene next : SceneAt) (fields : List (List ℕ)) → IsSceneOf cfg scene → free_line cfg scene fields ≡ Ok next → IsSceneOf cfg next
+free_line_fits : (cfg : NetCfg) (scene next : SceneAt) (fields : List (List ℕ)) → IsSceneOf cfg scene → free_line cfg scene fields ≡ Ok next
+    → IsSceneOf cfg next
 free_line_fits cfg scene next fields is e =
     let a = both (node_at cfg 2 fields) (λ node. rate_at 3 fields >>= (λ rate. Ok (record scene { frees = slice_set scene.frees node rate }))) next e in
     let b = both (rate_at 3 fields) (λ rate. Ok (record scene { frees = slice_set scene.frees a.first rate })) next a.rest in
@@ -126,14 +137,17 @@ repeat_fits cfg scene next fields is e =
     subst (IsSceneOf cfg) (ok_same (record scene { repeat = it.first }) next it.rest)
     (scenes.with_repeat cfg scene it.first (number_read 0 1_000 2 fields it.first it.is) is)
 
-fault_line_fits : (cfg : NetCfg) (scene next : SceneAt) (fields : List (List ℕ)) → IsSceneOf cfg scene → fault_line cfg scene fields ≡ Ok next → IsSceneOf cfg next
+fault_line_fits : (cfg : NetCfg) (scene next : SceneAt) (fields : List (List ℕ)) → IsSceneOf cfg scene → fault_line cfg scene fields ≡ Ok next
+    → IsSceneOf cfg next
 fault_line_fits cfg scene next fields is e =
-    let room : (nat_lt (length scene.faults) 64 ≡ true) × (with_fault cfg scene fields ≡ Ok next) = read_if (nat_lt (length scene.faults) 64) Fields (with_fault cfg scene fields) next e in
+    let room : (nat_lt (length scene.faults) 64 ≡ true) × (with_fault cfg scene fields ≡ Ok next) =
+    read_if (nat_lt (length scene.faults) 64) Fields (with_fault cfg scene fields) next e in
     let it = both (fault_at cfg fields) (λ fault. Ok (record scene { faults = scene.faults ++ fault ∷ [] })) next room.1 in
     subst (IsSceneOf cfg) (ok_same (record scene { faults = scene.faults ++ it.first ∷ [] }) next it.rest)
     (scenes.with_fault cfg scene it.first (ltb-true (length scene.faults) 64 room.0) (fault_fits cfg fields it.first it.is) is)
 
-kind_fits : (cfg : NetCfg) (scene next : SceneAt) (kind : SceneKind) (fields : List (List ℕ)) → IsSceneOf cfg scene → line_of_kind cfg scene kind fields ≡ Ok next → IsSceneOf cfg next
+kind_fits : (cfg : NetCfg) (scene next : SceneAt) (kind : SceneKind) (fields : List (List ℕ)) → IsSceneOf cfg scene
+    → line_of_kind cfg scene kind fields ≡ Ok next → IsSceneOf cfg next
 kind_fits cfg scene next kinds.Length fields is e = length_fits cfg scene next fields is e
 kind_fits cfg scene next kinds.Fibre fields is e = fibre_fits cfg scene next fields is e
 kind_fits cfg scene next kinds.Offset fields is e = offset_line_fits cfg scene next fields is e
@@ -142,14 +156,16 @@ kind_fits cfg scene next kinds.Loss fields is e = loss_fits cfg scene next field
 kind_fits cfg scene next kinds.Repeat fields is e = repeat_fits cfg scene next fields is e
 kind_fits cfg scene next kinds.Fault fields is e = fault_line_fits cfg scene next fields is e
 
-counted_fits : (cfg : NetCfg) (scene next : SceneAt) (fields : List (List ℕ)) (o : Option SceneKind) → IsSceneOf cfg scene → counted_of cfg scene fields o ≡ Ok next → IsSceneOf cfg next
+counted_fits : (cfg : NetCfg) (scene next : SceneAt) (fields : List (List ℕ)) (o : Option SceneKind) → IsSceneOf cfg scene
+    → counted_of cfg scene fields o ≡ Ok next → IsSceneOf cfg next
 counted_fits cfg scene next fields None is e = absurd (let f : Err Kind ≡ Ok next = e in cc)
 counted_fits cfg scene next fields (Some kind) is e =
     kind_fits cfg scene next kind fields is (read_if (length fields == field_count kind) Fields (line_of_kind cfg scene kind fields) next e).1
 
 line_fits : (cfg : NetCfg) (scene next : SceneAt) (line : List ℕ) → IsSceneOf cfg scene → scene_read cfg scene line ≡ Ok next → IsSceneOf cfg next
 line_fits cfg scene next line is e =
-    counted_fits cfg scene next (parts_of line) (kind_of (field_of 1 (parts_of line))) is (read_if (is_plain line) Fields (scene_of cfg scene (parts_of line)) next e).1
+    counted_fits cfg scene next (parts_of line) (kind_of (field_of 1 (parts_of line))) is
+    (read_if (is_plain line) Fields (scene_of cfg scene (parts_of line)) next e).1
 
 -- Scenarios
 

@@ -28,25 +28,36 @@ use Rattle.wrp_simulate.specs.SimText.{is_track, offsets_in, outs_of, printed_li
 
 -- Lines
 
-pub printed_text : {F : Type 0} (post : F → ℤ → ℤ → Type 0) (s : Setting) (w : WorldAt) (world : WorldOf F) (out : NodeOut) (node : NodeOf F) (ticks : ℕ) (off : ℤ) (name : List ℕ) (bound : ℤ) (lent : List Output) (text old : List ℕ) → StandsFor post s w world
-    → slice_get world.nodes out.node ≡ Some node → ((fixed : NodeSetting) (inputs : List Taken) → NodeStandsFor post fixed node inputs → ticks ≡ (node_after fixed inputs).ticks)
-    → ((s : Setting) (w : WorldAt) → StandsFor post s w world → off ≡ (w.clock out.node).off) → name ≡ name_at world.plant.net.cfg out.node → bound ≡ pos (path_of world.plant.net.cfg out.node)
+pub printed_text : {F : Type 0} (post : F → ℤ → ℤ → Type 0) (s : Setting) (w : WorldAt) (world : WorldOf F) (out : NodeOut) (node : NodeOf F) (ticks : ℕ)
+    (off : ℤ) (name : List ℕ) (bound : ℤ) (lent : List Output) (text old : List ℕ)
+    → StandsFor post s w world
+    → slice_get world.nodes out.node ≡ Some node
+    → ((fixed : NodeSetting) (inputs : List Taken) → NodeStandsFor post fixed node inputs → ticks ≡ (node_after fixed inputs).ticks)
+    → ((s : Setting) (w : WorldAt) → StandsFor post s w world → off ≡ (w.clock out.node).off) → name ≡ name_at world.plant.net.cfg out.node
+    → bound ≡ pos (path_of world.plant.net.cfg out.node)
     → lent ≡ out.outs.items → text ≡ old ++ flat_map (λ o. printed_by name ticks bound off o) lent → text ≡ old ++ printed_lines s w (step_seen out)
 printed_text post s w world out node ticks off name bound lent text old stands is ticked offs named bounded lends wrote =
     let ticks_are : ticks ≡ (w.node out.node).ticks =
-    ticked (node_setting_of s out.node) (w.inputs out.node) (stands.nodes out.node node is).stands ∙ ap (λ (n : NodeAt). n.ticks) (sym (stands.nodes out.node node is).at) in
+    ticked (node_setting_of s out.node) (w.inputs out.node) (stands.nodes out.node node is).stands
+    ∙ ap (λ (n : NodeAt). n.ticks) (sym (stands.nodes out.node node is).at) in
     let name_is : name ≡ name_at s.cfg out.node = named ∙ ap (λ (cfg : NetCfg). name_at cfg out.node) stands.plant.cfg in
     let bound_is : bound ≡ pos (path_of s.cfg out.node) = bounded ∙ ap (λ (cfg : NetCfg). pos (path_of cfg out.node)) stands.plant.cfg in
     wrote ∙ (λ i. old ++ flat_map (λ o. printed_by (name_is i) (ticks_are i) (bound_is i) (offs s w stands i) o) (lends i))
 
-pub sum_text : {F : Type 0} (post : F → ℤ → ℤ → Type 0) (s : Setting) (w : WorldAt) (world : WorldOf F) (n : ℕ) (node : NodeOf F) (ticks : ℕ) (state : ServoState) (name : List ℕ) (bound : ℤ) (total : Total) (offs : List ℤ) (text old : List ℕ) → StandsFor post s w world
-    → slice_get world.nodes n ≡ Some node → ((fixed : NodeSetting) (inputs : List Taken) → NodeStandsFor post fixed node inputs → ticks ≡ (node_after fixed inputs).ticks)
-    → ((fixed : NodeSetting) (inputs : List Taken) → NodeStandsFor post fixed node inputs → state ≡ state_of fixed (node_after fixed inputs)) → name ≡ name_at world.plant.net.cfg n → bound ≡ pos (path_of world.plant.net.cfg n)
+pub sum_text : {F : Type 0} (post : F → ℤ → ℤ → Type 0) (s : Setting) (w : WorldAt) (world : WorldOf F) (n : ℕ) (node : NodeOf F) (ticks : ℕ)
+    (state : ServoState) (name : List ℕ) (bound : ℤ) (total : Total) (offs : List ℤ) (text old : List ℕ)
+    → StandsFor post s w world
+    → slice_get world.nodes n ≡ Some node
+    → ((fixed : NodeSetting) (inputs : List Taken) → NodeStandsFor post fixed node inputs → ticks ≡ (node_after fixed inputs).ticks)
+    → ((fixed : NodeSetting) (inputs : List Taken) → NodeStandsFor post fixed node inputs → state ≡ state_of fixed (node_after fixed inputs))
+    → name ≡ name_at world.plant.net.cfg n → bound ≡ pos (path_of world.plant.net.cfg n)
     → IsTotal offs total → text ≡ old ++ sum_line_of name ticks total.tracks total.worst bound state → text ≡ old ++ sum_by s w n offs
 sum_text post s w world n node ticks state name bound total offs text old stands is ticked stated named bounded tells wrote =
     let at = (stands.nodes n node is).at in
-    let ticks_are : ticks ≡ (w.node n).ticks = ticked (node_setting_of s n) (w.inputs n) (stands.nodes n node is).stands ∙ ap (λ (k : NodeAt). k.ticks) (sym at) in
-    let state_is : state ≡ state_of (node_setting_of s n) (w.node n) = stated (node_setting_of s n) (w.inputs n) (stands.nodes n node is).stands ∙ ap (state_of (node_setting_of s n)) (sym at) in
+    let ticks_are : ticks ≡ (w.node n).ticks =
+    ticked (node_setting_of s n) (w.inputs n) (stands.nodes n node is).stands ∙ ap (λ (k : NodeAt). k.ticks) (sym at) in
+    let state_is : state ≡ state_of (node_setting_of s n) (w.node n) =
+    stated (node_setting_of s n) (w.inputs n) (stands.nodes n node is).stands ∙ ap (state_of (node_setting_of s n)) (sym at) in
     let name_is : name ≡ name_at s.cfg n = named ∙ ap (λ (cfg : NetCfg). name_at cfg n) stands.plant.cfg in
     let bound_is : bound ≡ pos (path_of s.cfg n) = bounded ∙ ap (λ (cfg : NetCfg). pos (path_of cfg n)) stands.plant.cfg in
     wrote ∙ (λ i. old ++ sum_line_of (name_is i) (ticks_are i) (tells.tracks i) (tells.worst i) (bound_is i) (state_is i))
@@ -65,7 +76,8 @@ all_sums s w offs count old =
     let all : count - 0 ≡ count = omega arith in
     ap (λ (k : ℕ). old ++ flat_map (sum_at s w offs) (from_on k 0)) all
 
-pub sum_less : (s : Setting) (w : WorldAt) (offs : ℕ → List ℤ) (count node : ℕ) (text now old : List ℕ) → node < count → LacksSums s w offs count node text old → now ≡ text ++ sum_by s w node (offs node)
+pub sum_less : (s : Setting) (w : WorldAt) (offs : ℕ → List ℤ) (count node : ℕ) (text now old : List ℕ) → node < count → LacksSums s w offs count node text old
+    → now ≡ text ++ sum_by s w node (offs node)
     → LacksSums s w offs count (node + 1) now old
 unfolding LacksSums
 sum_less s w offs count node text now old is h more =
@@ -74,7 +86,8 @@ sum_less s w offs count node text now old is h more =
     ∙ append_assoc text (sum_at s w offs node) (flat_map (sum_at s w offs) (from_on (count - (node + 1)) (node + 1)))
     ∙ ap (λ (k : ℕ). text ++ flat_map (sum_at s w offs) (from_on k node)) (sym one) ∙ h
 
-pub no_sum_less : (s : Setting) (w : WorldAt) (offs : ℕ → List ℤ) (count node : ℕ) (text old : List ℕ) → count ≤ node → count ≡ node_count s.cfg → LacksSums s w offs count node text old → text ≡ old ++ sums_by s w offs
+pub no_sum_less : (s : Setting) (w : WorldAt) (offs : ℕ → List ℤ) (count node : ℕ) (text old : List ℕ) → count ≤ node → count ≡ node_count s.cfg
+    → LacksSums s w offs count node text old → text ≡ old ++ sums_by s w offs
 unfolding LacksSums
 no_sum_less s w offs count node text old is counted h =
     let none : count - node ≡ 0 = omega (arith, is) in
@@ -94,7 +107,8 @@ max_first : (n : ℕ) → max 0 n ≡ max n 0
 max_first n = omega arith
 
 -- one more
-pub total_more : (offs : List ℤ) (off : ℤ) (total next : Total) → IsTotal offs total → next.tracks ≡ min (total.tracks + 1) 18_446_744_073_709_551_615 → next.worst ≡ max total.worst (unsigned_abs off) → IsTotal (off ∷ offs) next
+pub total_more : (offs : List ℤ) (off : ℤ) (total next : Total) → IsTotal offs total → next.tracks ≡ min (total.tracks + 1) 18_446_744_073_709_551_615
+    → next.worst ≡ max total.worst (unsigned_abs off) → IsTotal (off ∷ offs) next
 total_more offs off total next tells tracks worst =
     let counted = tells.tracks in
     record {
@@ -110,7 +124,8 @@ pub same_back : (off : ℤ) (xs : List Output) (ys : List ℤ) → map (λ (o : 
 same_back off [] ys = refl
 same_back off (x ∷ xs) ys = ap (λ (zs : List ℤ). off ∷ zs) (same_back off xs ys)
 
-same_swap : (off : ℤ) (xs ys : List Output) → map (λ (o : Output). off) xs ++ map (λ (o : Output). off) ys ≡ map (λ (o : Output). off) ys ++ map (λ (o : Output). off) xs
+same_swap : (off : ℤ) (xs ys : List Output)
+    → map (λ (o : Output). off) xs ++ map (λ (o : Output). off) ys ≡ map (λ (o : Output). off) ys ++ map (λ (o : Output). off) xs
 same_swap off [] ys = sym (append-nil (map (λ (o : Output). off) ys))
 same_swap off (x ∷ xs) ys = ap (λ (zs : List ℤ). off ∷ zs) (same_swap off xs ys) ∙ sym (same_back off ys (map (λ (o : Output). off) xs))
 
@@ -129,12 +144,14 @@ Counted off outs i before now = (offs : List ℤ) → IsTotal offs before → Is
 taken_more : (outs : List Output) (i : ℕ) (d : Output) → i < length outs → take (i + 1) outs ≡ take i outs ++ get_or outs i d ∷ []
 taken_more outs i d is = take_more outs i d is
 
-pub counted_more : (off : ℤ) (outs : List Output) (i : ℕ) (d : Output) (before now next : Total) → i < length outs → Counted off outs i before now → is_track (get_or outs i d) ≡ true
+pub counted_more : (off : ℤ) (outs : List Output) (i : ℕ) (d : Output) (before now next : Total) → i < length outs → Counted off outs i before now
+    → is_track (get_or outs i d) ≡ true
     → ((offs : List ℤ) → IsTotal offs now → IsTotal (off ∷ offs) next) → Counted off outs (i + 1) before next
 counted_more off outs i d before now next is so_far track more offs tells =
     let last : filter is_track (get_or outs i d ∷ []) ≡ get_or outs i d ∷ [] = simp track refl in
     let all : filter is_track (take (i + 1) outs) ≡ filter is_track (take i outs) ++ get_or outs i d ∷ [] =
-    ap (filter is_track) (taken_more outs i d is) ∙ filter-append (take i outs) (get_or outs i d ∷ []) ∙ ap (λ (l : List Output). filter is_track (take i outs) ++ l) last in
+    ap (filter is_track) (taken_more outs i d is) ∙ filter-append (take i outs) (get_or outs i d ∷ [])
+    ∙ ap (λ (l : List Output). filter is_track (take i outs) ++ l) last in
     let list : map (λ (o : Output). off) (filter is_track (take (i + 1) outs)) ++ offs ≡ off ∷ (map (λ (o : Output). off) (filter is_track (take i outs)) ++ offs) =
     ap (λ (l : List Output). map (λ (o : Output). off) l ++ offs) all
     ∙ ap (λ (l : List ℤ). l ++ offs) (map-append (λ (o : Output). off) (filter is_track (take i outs)) (get_or outs i d ∷ []))
@@ -142,12 +159,14 @@ counted_more off outs i d before now next is so_far track more offs tells =
     ∙ same_back off (filter is_track (take i outs)) offs in
     subst (λ (l : List ℤ). IsTotal l next) (sym list) (more (map (λ (o : Output). off) (filter is_track (take i outs)) ++ offs) (so_far offs tells))
 
-pub counted_same : (off : ℤ) (outs : List Output) (i : ℕ) (d : Output) (before now : Total) → i < length outs → Counted off outs i before now → is_track (get_or outs i d) ≡ false
+pub counted_same : (off : ℤ) (outs : List Output) (i : ℕ) (d : Output) (before now : Total) → i < length outs → Counted off outs i before now
+    → is_track (get_or outs i d) ≡ false
     → Counted off outs (i + 1) before now
 counted_same off outs i d before now is so_far track offs tells =
     let last : filter is_track (get_or outs i d ∷ []) ≡ [] = simp track refl in
     let all : filter is_track (take (i + 1) outs) ≡ filter is_track (take i outs) =
-    ap (filter is_track) (taken_more outs i d is) ∙ filter-append (take i outs) (get_or outs i d ∷ []) ∙ ap (λ (l : List Output). filter is_track (take i outs) ++ l) last ∙ append-nil (filter is_track (take i outs)) in
+    ap (filter is_track) (taken_more outs i d is) ∙ filter-append (take i outs) (get_or outs i d ∷ [])
+    ∙ ap (λ (l : List Output). filter is_track (take i outs) ++ l) last ∙ append-nil (filter is_track (take i outs)) in
     subst (λ (l : List Output). IsTotal (map (λ (o : Output). off) l ++ offs) now) (sym all) (so_far offs tells)
 
 pub counted_all : (off : ℤ) (outs : List Output) (i : ℕ) (before now : Total) → length outs ≤ i → Counted off outs i before now
@@ -163,7 +182,8 @@ own_outs n step = if step.node == n then step.outs else []
 
 outs_snoc : (n : ℕ) (steps : List NodeStepAt) (st : NodeStepAt) → outs_of n (steps ++ st ∷ []) ≡ outs_of n steps ++ own_outs n st
 outs_snoc n [] st = append-nil (own_outs n st)
-outs_snoc n (x ∷ steps) st = ap (λ (l : List Output). own_outs n x ++ l) (outs_snoc n steps st) ∙ sym (append_assoc (own_outs n x) (outs_of n steps) (own_outs n st))
+outs_snoc n (x ∷ steps) st =
+    ap (λ (l : List Output). own_outs n x ++ l) (outs_snoc n steps st) ∙ sym (append_assoc (own_outs n x) (outs_of n steps) (own_outs n st))
 
 offsets_snoc : (w : WorldAt) (n : ℕ) (steps : List NodeStepAt) (st : NodeStepAt) →
     offsets_in w n (steps ++ st ∷ []) ≡ map (λ (o : Output). (w.clock n).off) (filter is_track (own_outs n st)) ++ offsets_in w n steps
@@ -174,7 +194,8 @@ offsets_snoc w n steps st =
     ∙ same_swap (w.clock n).off (filter is_track (outs_of n steps)) (filter is_track (own_outs n st))
 
 -- a list of which one place is written anew
-each_set : {A : Type 0} (P Q : ℕ → A → Type 0) (xs : List A) (i : ℕ) (v : A) → ((n : ℕ) (x : A) → P n x → (n ≡ i → ⊥) → Q n x) → Q i v → Each P xs → Each Q (slice_set xs i v)
+each_set : {A : Type 0} (P Q : ℕ → A → Type 0) (xs : List A) (i : ℕ) (v : A) → ((n : ℕ) (x : A) → P n x → (n ≡ i → ⊥) → Q n x) → Q i v → Each P xs
+    → Each Q (slice_set xs i v)
 each_set P Q [] i v keep here all n x is = absurd (cc)
 each_set P Q (y ∷ ys) zero v keep here all zero x is = let same : v ≡ x = cc in subst (Q 0) same here
 each_set P Q (y ∷ ys) zero v keep here all (suc n) x is = keep (suc n) x (all (suc n) x is) (λ e. omega (arith, e))
@@ -196,10 +217,12 @@ other_node m n other =
       | false ↦ λ is. refl
     ] refl
 
-seen_more : (outs : List NodeOut) (i : ℕ) (d : NodeOut) → i < length outs → map step_seen (take (i + 1) outs) ≡ map step_seen (take i outs) ++ step_seen (get_or outs i d) ∷ []
+seen_more : (outs : List NodeOut) (i : ℕ) (d : NodeOut) → i < length outs
+    → map step_seen (take (i + 1) outs) ≡ map step_seen (take i outs) ++ step_seen (get_or outs i d) ∷ []
 seen_more outs i d is = ap (map step_seen) (take_more outs i d is) ∙ map-append step_seen (take i outs) (get_or outs i d ∷ [])
 
-pub adds_more : (w : WorldAt) (outs : List NodeOut) (i : ℕ) (d : NodeOut) (before now : List Total) (old total : Total) → i < length outs → AddsTo w outs i before now
+pub adds_more : (w : WorldAt) (outs : List NodeOut) (i : ℕ) (d : NodeOut) (before now : List Total) (old total : Total) → i < length outs
+    → AddsTo w outs i before now
     → slice_get now (get_or outs i d).node ≡ Some old
     → ((offs : List ℤ) → IsTotal offs old → IsTotal (map (λ (o : Output). (w.clock (get_or outs i d).node).off) (filter is_track (get_or outs i d).outs.items) ++ offs) total)
     → AddsTo w outs (i + 1) before (slice_set now (get_or outs i d).node total)
@@ -226,9 +249,11 @@ adds_all w outs i before now is so_far offs all =
     subst (λ (l : List NodeOut). AreTotals (λ n. offsets_in w n (map step_seen l) ++ offs n) now) (take_all i outs is) (so_far offs all)
 
 -- the same by what the code holds of the step
-pub adds_at : (w : WorldAt) (outs : List NodeOut) (i : ℕ) (out : NodeOut) (k : ℕ) (off : ℤ) (lent : List Output) (before now : List Total) (old total : Total) → i < length outs → AddsTo w outs i before now
+pub adds_at : (w : WorldAt) (outs : List NodeOut) (i : ℕ) (out : NodeOut) (k : ℕ) (off : ℤ) (lent : List Output) (before now : List Total) (old total : Total)
+    → i < length outs → AddsTo w outs i before now
     → out ≡ get_or outs i out → k ≡ out.node → off ≡ (w.clock out.node).off → lent ≡ out.outs.items → slice_get now k ≡ Some old
-    → ((offs : List ℤ) → IsTotal offs old → IsTotal (map (λ (o : Output). off) (filter is_track lent) ++ offs) total) → AddsTo w outs (i + 1) before (slice_set now k total)
+    → ((offs : List ℤ) → IsTotal offs old → IsTotal (map (λ (o : Output). off) (filter is_track lent) ++ offs) total)
+    → AddsTo w outs (i + 1) before (slice_set now k total)
 adds_at w outs i out k off lent before now old total is so_far got place true_off lends found more =
     let here : k ≡ (get_or outs i out).node = place ∙ ap (λ (o : NodeOut). o.node) got in
     let own : off ≡ (w.clock (get_or outs i out).node).off = true_off ∙ ap (λ (o : NodeOut). (w.clock o.node).off) got in
@@ -238,7 +263,8 @@ adds_at w outs i out k off lent before now old total is so_far got place true_of
     (λ offs tells. subst (λ (l : List ℤ). IsTotal l total) (λ j. map (λ (o : Output). own j) (filter is_track (all j)) ++ offs) (more offs tells)))
 
 -- each of these steps is of a node
-pub node_within : (count : ℕ) (outs : List NodeOut) (i : ℕ) (out : NodeOut) → AllByRecursion (λ (o : NodeOut). o.node < count) outs → i < length outs → out ≡ get_or outs i out → out.node < count
+pub node_within : (count : ℕ) (outs : List NodeOut) (i : ℕ) (out : NodeOut) → AllByRecursion (λ (o : NodeOut). o.node < count) outs → i < length outs
+    → out ≡ get_or outs i out → out.node < count
 node_within count [] i out all is got = absurd (omega (arith, is))
 node_within count (x ∷ xs) zero out all is got = subst (λ (o : NodeOut). o.node < count) (sym got) all.0
 node_within count (x ∷ xs) (suc i) out all is got = node_within count xs i out all.1 (omega (arith, is)) got

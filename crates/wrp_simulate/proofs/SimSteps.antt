@@ -49,9 +49,12 @@ use Rattle.wrp_scene_records.proofs.Finishing.{finishes_after}
 -- The event that comes
 
 -- the network of a run is one that its reader accepts
-pub network_of : {F : Type 0} {pre : F → ℤ → Type 0} {post : F → ℤ → ℤ → Type 0} (s : Setting) (w : WorldAt) (world : WorldOf F) → IsValid pre post world → StandsFor post s w world → IsNetwork s
+pub network_of : {F : Type 0} {pre : F → ℤ → Type 0} {post : F → ℤ → ℤ → Type 0} (s : Setting) (w : WorldAt) (world : WorldOf F) → IsValid pre post world
+    → StandsFor post s w world → IsNetwork s
 network_of s w world valid stands = record {
-  accepted = subst (λ (d : Database). IsAccepted s.cfg d) stands.plant.db (subst (λ (c : NetCfg). IsAccepted c world.plant.net.db) stands.plant.cfg valid.plant.accepted);
+  accepted =
+      subst (λ (d : Database). IsAccepted s.cfg d) stands.plant.db
+      (subst (λ (c : NetCfg). IsAccepted c world.plant.net.db) stands.plant.cfg valid.plant.accepted);
   set = stands.set;
 }
 
@@ -64,12 +67,16 @@ pub record NextComes (s : Setting) (scene : SceneAt) (seed : ℕ) (events : List
   pub can : IsEventOf s.cfg event
   pub accepted : (says : Result PtpMsg FrameFault) → Accepts s (world_after s events) says event
 
-run_with : (s : Setting) (scene : SceneAt) (seed : ℕ) (events : List Happened) (at : SimAt) (next : Next) (says : Result PtpMsg FrameFault) (answer : ℤ) → IsSimRun scene s seed events at
+run_with : (s : Setting) (scene : SceneAt) (seed : ℕ) (events : List Happened) (at : SimAt) (next : Next) (says : Result PtpMsg FrameFault) (answer : ℤ)
+    → IsSimRun scene s seed events at
     → Gives scene s (world_after s events) at (Some next) → IsSimRun scene s seed (record { event = next.event; says = says; answer = answer } ∷ events) next.at
 run_with s scene seed events at next says answer run gives = (at, run, gives)
 
-comes_by : SimRunsAreRuns → (s : Setting) (scene : SceneAt) (seed : ℕ) (events : List Happened) (at : SimAt) (event : Event) (sim : State) (stays : SimAt) (next : Option Next) → IsNetwork s → IsSceneOf s.cfg scene
-    → IsSimRun scene s seed events at → Gives scene s (world_after s events) at next → Gave stays next (Some event) sim → NextComes s scene seed events at event sim
+comes_by : SimRunsAreRuns
+    → (s : Setting) (scene : SceneAt) (seed : ℕ) (events : List Happened) (at : SimAt) (event : Event) (sim : State) (stays : SimAt) (next : Option Next)
+    → IsNetwork s → IsSceneOf s.cfg scene
+    → IsSimRun scene s seed events at → Gives scene s (world_after s events) at next → Gave stays next (Some event) sim
+    → NextComes s scene seed events at event sim
 comes_by keeps s scene seed events at event sim stays None net fits run gives gave = absurd gave
 comes_by keeps s scene seed events at event sim stays (Some next) net fits run gives gave =
     let whole : (says : Result PtpMsg FrameFault) → IsRun s (record { event = next.event; says = says; answer = pos 0 } ∷ events) =
@@ -84,13 +91,15 @@ comes_by keeps s scene seed events at event sim stays (Some next) net fits run g
     }
 
 -- the scenario of a run is one of its network
-scene_of : {F : Type 0} {post : F → ℤ → ℤ → Type 0} (seed : ℕ) (s : Setting) (scene : SceneAt) (network : SimulatedNetwork F) (course : Course) (events : List Happened) (at : SimAt)
+scene_of : {F : Type 0} {post : F → ℤ → ℤ → Type 0} (seed : ℕ) (s : Setting) (scene : SceneAt) (network : SimulatedNetwork F) (course : Course)
+    (events : List Happened) (at : SimAt)
     → HasRun post seed s scene network course events at → FitsSim network.world.plant.net.cfg course.sim → IsSceneOf s.cfg scene
 scene_of seed s scene network course events at h fits =
     subst (IsSceneOf s.cfg) h.is_scene (subst (λ (c : NetCfg). IsSceneOf c course.sim.scene) h.stands.plant.cfg fits.scene)
 
 -- what the simulator answered, told of the scenario
-gave_of : {F : Type 0} {post : F → ℤ → ℤ → Type 0} (seed : ℕ) (s : Setting) (scene : SceneAt) (network : SimulatedNetwork F) (course : Course) (events : List Happened) (at : SimAt) (sim : State) (event : Option Event)
+gave_of : {F : Type 0} {post : F → ℤ → ℤ → Type 0} (seed : ℕ) (s : Setting) (scene : SceneAt) (network : SimulatedNetwork F) (course : Course)
+    (events : List Happened) (at : SimAt) (sim : State) (event : Option Event)
     → HasRun post seed s scene network course events at → FollowsRules post network.world course.sim sim event
     → (next : Option Next) × Gives scene s (world_after s events) at next × Gave (rest_of s (world_after s events) at) next event sim
 gave_of seed s scene network course events at sim event h follows =
@@ -98,31 +107,39 @@ gave_of seed s scene network course events at sim event h follows =
     (g.next, subst (λ (k : SceneAt). Gives k s (world_after s events) at g.next) h.is_scene g.gives, g.gave)
 
 -- an event was put into its place, or none
-pub one_put : {F : Type 0} {post : F → ℤ → ℤ → Type 0} (world : WorldOf F) (old new : State) (b : Bool) (event : Event) → FollowsRules post world old new (put b event) → b ≡ true → FollowsRules post world old new (Some event)
+pub one_put : {F : Type 0} {post : F → ℤ → ℤ → Type 0} (world : WorldOf F) (old new : State) (b : Bool) (event : Event)
+    → FollowsRules post world old new (put b event) → b ≡ true → FollowsRules post world old new (Some event)
 one_put {post = post} world old new b event h is = subst (FollowsRules post world old new) (put_one b event is) h
 
-pub none_put : {F : Type 0} {post : F → ℤ → ℤ → Type 0} (world : WorldOf F) (old new : State) (b : Bool) (event : Event) → FollowsRules post world old new (put b event) → b ≡ false → FollowsRules post world old new None
+pub none_put : {F : Type 0} {post : F → ℤ → ℤ → Type 0} (world : WorldOf F) (old new : State) (b : Bool) (event : Event)
+    → FollowsRules post world old new (put b event) → b ≡ false → FollowsRules post world old new None
 none_put {post = post} world old new b event h is = subst (FollowsRules post world old new) (put_none b event is) h
 
-pub event_comes : {F : Type 0} {pre : F → ℤ → Type 0} {post : F → ℤ → ℤ → Type 0} → SimRunsAreRuns → (seed : ℕ) (s : Setting) (scene : SceneAt) (network : SimulatedNetwork F) (course : Course) (events : List Happened) (at : SimAt) (sim : State) (event : Event)
-    → HasRun post seed s scene network course events at → CanRun pre post network → FitsCourse network course → FollowsRules post network.world course.sim sim (Some event) → NextComes s scene seed events at event sim
+pub event_comes : {F : Type 0} {pre : F → ℤ → Type 0} {post : F → ℤ → ℤ → Type 0} → SimRunsAreRuns
+    → (seed : ℕ) (s : Setting) (scene : SceneAt) (network : SimulatedNetwork F) (course : Course) (events : List Happened) (at : SimAt) (sim : State) (event : Event)
+    → HasRun post seed s scene network course events at → CanRun pre post network → FitsCourse network course
+    → FollowsRules post network.world course.sim sim (Some event) → NextComes s scene seed events at event sim
 event_comes {pre = pre} {post = post} keeps seed s scene network course events at sim event h can fits follows =
     let gave = gave_of seed s scene network course events at sim (Some event) h follows in
     comes_by keeps s scene seed events at event sim (rest_of s (world_after s events) at) gave.0
-    (network_of {pre = pre} {post = post} s (world_after s events) network.world can.valid h.stands) (scene_of seed s scene network course events at h fits.sim) h.simulated.run gave.1 gave.2
+    (network_of {pre = pre} {post = post} s (world_after s events) network.world can.valid h.stands)
+    (scene_of seed s scene network course events at h fits.sim) h.simulated.run gave.1 gave.2
 
-pub none_comes : {F : Type 0} {post : F → ℤ → ℤ → Type 0} (seed : ℕ) (s : Setting) (scene : SceneAt) (network : SimulatedNetwork F) (course : Course) (events : List Happened) (at : SimAt) (sim : State)
+pub none_comes : {F : Type 0} {post : F → ℤ → ℤ → Type 0} (seed : ℕ) (s : Setting) (scene : SceneAt) (network : SimulatedNetwork F) (course : Course)
+    (events : List Happened) (at : SimAt) (sim : State)
     → HasRun post seed s scene network course events at → FollowsRules post network.world course.sim sim None → Gives scene s (world_after s events) at None
 none_comes seed s scene network course events at sim h follows =
     let gave = gave_of seed s scene network course events at sim None h follows in
     subst (Gives scene s (world_after s events) at) (no_rule (rest_of s (world_after s events) at) gave.0 sim gave.2) gave.1
 
-pub some_comes : (s : Setting) (scene : SceneAt) (seed : ℕ) (events : List Happened) (at : SimAt) (event : Event) (sim : State) → NextComes s scene seed events at event sim
+pub some_comes : (s : Setting) (scene : SceneAt) (seed : ℕ) (events : List Happened) (at : SimAt) (event : Event) (sim : State)
+    → NextComes s scene seed events at event sim
     → (comes : Next) × Gives scene s (world_after s events) at (Some comes)
 some_comes s scene seed events at event sim c = (c.next, c.gives)
 
 -- and the world can take it
-pub can_happen : {F : Type 0} {post : F → ℤ → ℤ → Type 0} (seed : ℕ) (s : Setting) (scene : SceneAt) (network : SimulatedNetwork F) (course : Course) (events : List Happened) (at : SimAt) (sim : State) (event : Event)
+pub can_happen : {F : Type 0} {post : F → ℤ → ℤ → Type 0} (seed : ℕ) (s : Setting) (scene : SceneAt) (network : SimulatedNetwork F) (course : Course)
+    (events : List Happened) (at : SimAt) (sim : State) (event : Event)
     → HasRun post seed s scene network course events at → NextComes s scene seed events at event sim → CanHappen post network.world event
 can_happen seed s scene network course events at sim event h c = record {
   setting = s;
@@ -131,7 +148,8 @@ can_happen seed s scene network course events at sim event h c = record {
   accepted = λ says said. c.accepted says;
 }
 
-pub may_come : {F : Type 0} {post : F → ℤ → ℤ → Type 0} (seed : ℕ) (s : Setting) (scene : SceneAt) (network : SimulatedNetwork F) (course : Course) (events : List Happened) (at : SimAt) (sim : State) (event : Event)
+pub may_come : {F : Type 0} {post : F → ℤ → ℤ → Type 0} (seed : ℕ) (s : Setting) (scene : SceneAt) (network : SimulatedNetwork F) (course : Course)
+    (events : List Happened) (at : SimAt) (sim : State) (event : Event)
     → HasRun post seed s scene network course events at → FitsCourse network course → NextComes s scene seed events at event sim → MayCome network.world event
 may_come seed s scene network course events at sim event h fits c =
     let same = fits.count in
@@ -139,8 +157,10 @@ may_come seed s scene network course events at sim event h fits c =
     record { event = subst (λ (k : NetCfg). IsEventOf k event) (sym h.stands.plant.cfg) c.can; room = omega (arith, same, below) }
 
 -- the run with it
-pub goes_on : {F : Type 0} {pre : F → ℤ → Type 0} {post : F → ℤ → ℤ → Type 0} (seed : ℕ) (s : Setting) (scene : SceneAt) (old new : SimulatedNetwork F) (course next : Course) (events : List Happened) (at : SimAt) (event : Event) (before text : List ℕ)
-    → HasRun post seed s scene old course events at → NextComes s scene seed events at event next.sim → next.sim.scene ≡ course.sim.scene → CanRun pre post new → new.world.plant.net ≡ old.world.plant.net
+pub goes_on : {F : Type 0} {pre : F → ℤ → Type 0} {post : F → ℤ → ℤ → Type 0} (seed : ℕ) (s : Setting) (scene : SceneAt) (old new : SimulatedNetwork F)
+    (course next : Course) (events : List Happened) (at : SimAt) (event : Event) (before text : List ℕ)
+    → HasRun post seed s scene old course events at → NextComes s scene seed events at event next.sim → next.sim.scene ≡ course.sim.scene → CanRun pre post new
+    → new.world.plant.net ≡ old.world.plant.net
     → Taken post event old.world new.world new.outs.items
     → ((t : Setting) (w : WorldAt) → StandsFor post t w new.world → text ≡ before ++ flat_map (printed_lines t w) (map step_seen new.outs.items))
     → ((t : Setting) (w : WorldAt) → StandsFor post t w new.world → (offs : ℕ → List ℤ) → AreTotals offs course.totals.items → AreTotals (λ n. offsets_in w n (map step_seen new.outs.items) ++ offs n) next.totals.items)
@@ -169,7 +189,9 @@ goes_on {F} {pre} {post} seed s scene old new course next events at event before
         };
         stands = stands;
         sim = c.stands;
-        totals = subst (λ steps. AreTotals (λ n. offsets_in w n steps ++ tracked s n events) next.totals.items) seen (totals s w stands (λ n. tracked s n events) h.totals);
+        totals =
+            subst (λ steps. AreTotals (λ n. offsets_in w n steps ++ tracked s n events) next.totals.items) seen
+            (totals s w stands (λ n. tracked s n events) h.totals);
         count = omega (arith, numbered, count);
       };
       wrote = wrote s w stands ∙ ap (λ steps. before ++ flat_map (printed_lines s w) steps) seen;
@@ -177,7 +199,8 @@ goes_on {F} {pre} {post} seed s scene old new course next events at event before
 
 -- How far it is written
 
-pub begins_running : {F : Type 0} {post : F → ℤ → ℤ → Type 0} (seed : ℕ) (s : Setting) (scene : SceneAt) (network : SimulatedNetwork F) (course : Course) (held : Option (List ℕ)) (waiting : List ℕ)
+pub begins_running : {F : Type 0} {post : F → ℤ → ℤ → Type 0} (seed : ℕ) (s : Setting) (scene : SceneAt) (network : SimulatedNetwork F) (course : Course)
+    (held : Option (List ℕ)) (waiting : List ℕ)
     → Begins post seed s scene network course → waiting ≡ [] → Running post seed s scene network course held held waiting
 begins_running seed s scene network course held waiting begins none = record {
   events = [];
@@ -192,8 +215,10 @@ begins_running seed s scene network course held waiting begins none = record {
   lines = sym none;
 }
 
-pub runs_on : {F : Type 0} {post : F → ℤ → ℤ → Type 0} (seed : ℕ) (s : Setting) (scene : SceneAt) (old new : SimulatedNetwork F) (course next : Course) (before now : Option (List ℕ)) (waiting text : List ℕ)
-    → (so_far : Running post seed s scene old course before now waiting) → RunsOn post seed s scene new next so_far.events waiting text → Running post seed s scene new next before now text
+pub runs_on : {F : Type 0} {post : F → ℤ → ℤ → Type 0} (seed : ℕ) (s : Setting) (scene : SceneAt) (old new : SimulatedNetwork F) (course next : Course)
+    (before now : Option (List ℕ)) (waiting text : List ℕ)
+    → (so_far : Running post seed s scene old course before now waiting) → RunsOn post seed s scene new next so_far.events waiting text
+    → Running post seed s scene new next before now text
 runs_on seed s scene old new course next before now waiting text so_far on = record {
   events = on.newest ∷ so_far.events;
   at = on.at;
@@ -210,8 +235,10 @@ runs_on seed s scene old new course next before now waiting text so_far on = rec
       ∙ ap (λ (l : List ℕ). so_far.written ++ l) (sym on.wrote);
 }
 
-pub writes_on : {F : Type 0} {post : F → ℤ → ℤ → Type 0} (seed : ℕ) (s : Setting) (scene : SceneAt) (network : SimulatedNetwork F) (course : Course) (before mid now : Option (List ℕ)) (waiting left : List ℕ)
-    → Running post seed s scene network course before mid waiting → ((left ≡ waiting) × (now ≡ mid)) ⊎ ((left ≡ []) × Appends mid now waiting) → Running post seed s scene network course before now left
+pub writes_on : {F : Type 0} {post : F → ℤ → ℤ → Type 0} (seed : ℕ) (s : Setting) (scene : SceneAt) (network : SimulatedNetwork F) (course : Course)
+    (before mid now : Option (List ℕ)) (waiting left : List ℕ)
+    → Running post seed s scene network course before mid waiting → ((left ≡ waiting) × (now ≡ mid)) ⊎ ((left ≡ []) × Appends mid now waiting)
+    → Running post seed s scene network course before now left
 writes_on {post = post} seed s scene network course before mid now waiting left so_far (inl none) =
     subst (λ (k : Option (List ℕ)). Running post seed s scene network course before k left) (sym none.1)
     (subst (Running post seed s scene network course before mid) (sym none.0) so_far)
@@ -231,12 +258,14 @@ writes_on seed s scene network course before mid now waiting left so_far (inr al
 -- Ends
 
 -- what closes the lines that say more closes those that say less
-pub closed_by : (L : LineMeaning) (T U : List (List ℕ) → Type 0) (status : Status) (before now : Option (List ℕ)) → ((lines : List (List ℕ)) → T lines → U lines) → Closed U L status before now → Closed T L status before now
+pub closed_by : (L : LineMeaning) (T U : List (List ℕ) → Type 0) (status : Status) (before now : Option (List ℕ))
+    → ((lines : List (List ℕ)) → T lines → U lines) → Closed U L status before now → Closed T L status before now
 closed_by L T U status before now means (inl memory) = inl memory
 closed_by L T U status before now means (inr how) = inr (how.0, how.1, λ lines says. how.2 lines (means lines says), how.3)
 
 -- where there is no memory the lines of the first events stand
-pub without_memory : {F : Type 0} {post : F → ℤ → ℤ → Type 0} (seed : ℕ) (s : Setting) (scene : SceneAt) (network : SimulatedNetwork F) (course : Course) (before now : Option (List ℕ)) (waiting : List ℕ)
+pub without_memory : {F : Type 0} {post : F → ℤ → ℤ → Type 0} (seed : ℕ) (s : Setting) (scene : SceneAt) (network : SimulatedNetwork F) (course : Course)
+    (before now : Option (List ℕ)) (waiting : List ℕ)
     → Running post seed s scene network course before now waiting → Closed (λ lines. IsScenario s lines scene) (simulation_of s seed) OutOfMemory before now
 without_memory seed s scene network course before now waiting r = inr (
   OutOfMemory,
@@ -246,8 +275,10 @@ without_memory seed s scene network course before now waiting r = inr (
 )
 
 -- where the sink failed a part of the lines of the events so far
-pub unwritten : {F : Type 0} {post : F → ℤ → ℤ → Type 0} (seed : ℕ) (s : Setting) (scene : SceneAt) (network : SimulatedNetwork F) (course : Course) (before mid now : Option (List ℕ)) (waiting : List ℕ)
-    → Running post seed s scene network course before mid waiting → AppendsPart mid now waiting → Closed (λ lines. IsScenario s lines scene) (simulation_of s seed) WriteFault before now
+pub unwritten : {F : Type 0} {post : F → ℤ → ℤ → Type 0} (seed : ℕ) (s : Setting) (scene : SceneAt) (network : SimulatedNetwork F) (course : Course)
+    (before mid now : Option (List ℕ)) (waiting : List ℕ)
+    → Running post seed s scene network course before mid waiting → AppendsPart mid now waiting
+    → Closed (λ lines. IsScenario s lines scene) (simulation_of s seed) WriteFault before now
 unwritten seed s scene network course before mid now waiting r part = inr (
   OutOfMemory,
   r.written ++ waiting,
@@ -256,7 +287,8 @@ unwritten seed s scene network course before mid now waiting r part = inr (
 )
 
 -- where no event comes any more the lines that sum up stand too
-pub over_closed : {F : Type 0} {post : F → ℤ → ℤ → Type 0} (seed : ℕ) (s : Setting) (scene : SceneAt) (network : SimulatedNetwork F) (course : Course) (before mid now : Option (List ℕ)) (waiting : List ℕ) (status : Status)
+pub over_closed : {F : Type 0} {post : F → ℤ → ℤ → Type 0} (seed : ℕ) (s : Setting) (scene : SceneAt) (network : SimulatedNetwork F) (course : Course)
+    (before mid now : Option (List ℕ)) (waiting : List ℕ) (status : Status)
     → (r : Running post seed s scene network course before mid waiting) → Gives scene s (world_after s r.events) r.at None
     → ClosesRun s (world_after s r.events) (λ n. tracked s n r.events) status mid now waiting
     → Closed (λ lines. IsScenario s lines scene) (simulation_of s seed) status before now
@@ -275,8 +307,10 @@ over_closed seed s scene network course before mid now waiting status r over (in
 )
 
 -- where an event has too great a number the line that names it does
-pub large_closed : {F : Type 0} {post : F → ℤ → ℤ → Type 0} (seed : ℕ) (s : Setting) (scene : SceneAt) (network : SimulatedNetwork F) (course : Course) (before mid now : Option (List ℕ)) (waiting : List ℕ) (status : Status)
-    → (r : Running post seed s scene network course before mid waiting) → (comes : Next) → Gives scene s (world_after s r.events) r.at (Some comes) → length r.events + 1 ≡ event_limit
+pub large_closed : {F : Type 0} {post : F → ℤ → ℤ → Type 0} (seed : ℕ) (s : Setting) (scene : SceneAt) (network : SimulatedNetwork F) (course : Course)
+    (before mid now : Option (List ℕ)) (waiting : List ℕ) (status : Status)
+    → (r : Running post seed s scene network course before mid waiting) → (comes : Next) → Gives scene s (world_after s r.events) r.at (Some comes)
+    → length r.events + 1 ≡ event_limit
     → ClosesLarge status mid now waiting
     → Closed (λ lines. IsScenario s lines scene) (simulation_of s seed) status before now
 large_closed {post = post} seed s scene network course before mid now waiting status r comes gives number (inl memory) =
@@ -295,7 +329,8 @@ large_closed seed s scene network course before mid now waiting status r comes g
 )
 
 -- before the first event there is no memory
-pub nothing_run : (s : Setting) (scene : SceneAt) (seed : ℕ) (held : Option (List ℕ)) → Closed (λ lines. IsScenario s lines scene) (simulation_of s seed) OutOfMemory held held
+pub nothing_run : (s : Setting) (scene : SceneAt) (seed : ℕ) (held : Option (List ℕ))
+    → Closed (λ lines. IsScenario s lines scene) (simulation_of s seed) OutOfMemory held held
 nothing_run s scene seed held = inr (
   OutOfMemory,
   [],
@@ -313,8 +348,10 @@ nothing_run s scene seed held = inr (
 )
 
 -- with a network and a simulator that are new
-pub first_run : {F : Type 0} {post : F → ℤ → ℤ → Type 0} (seed : ℕ) (scene : SceneAt) (network : SimulatedNetwork F) (course : Course) → StandsFor post (setting_in network.world.plant.net) (new_world (setting_in network.world.plant.net)) network.world
-    → course.sim.scene ≡ scene → SimIs (new_sim scene seed) course.sim → AreTotals (λ n. []) course.totals.items → course.events ≡ 0 → Begins post seed (setting_in network.world.plant.net) scene network course
+pub first_run : {F : Type 0} {post : F → ℤ → ℤ → Type 0} (seed : ℕ) (scene : SceneAt) (network : SimulatedNetwork F) (course : Course)
+    → StandsFor post (setting_in network.world.plant.net) (new_world (setting_in network.world.plant.net)) network.world
+    → course.sim.scene ≡ scene → SimIs (new_sim scene seed) course.sim → AreTotals (λ n. []) course.totals.items → course.events ≡ 0
+    → Begins post seed (setting_in network.world.plant.net) scene network course
 first_run seed scene network course stands same sim totals none = (
   new_sim scene seed,
   record {

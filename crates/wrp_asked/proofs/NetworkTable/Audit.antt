@@ -13,7 +13,8 @@ use Rattle.wrp_asked.proofs.OneSetting.{accepted_setting, one_setting}
 unnamed : (name : List ℕ) → None ≡ Some name → ⊥
 unnamed name e = cc
 
-same : (s : Setting) (text : List ℕ) (other : Task) → (task_row other).command ≡ requests.Audit → IsSettingOf text s → (task_row other).IsIn text → bare_task other ≡ Audit (bare_setting s)
+same : (s : Setting) (text : List ℕ) (other : Task) → (task_row other).command ≡ requests.Audit → IsSettingOf text s → (task_row other).IsIn text
+    → bare_task other ≡ Audit (bare_setting s)
 same s text (Audit t) command p q = ap Audit (one_setting text t s q p)
 same s text other command p q = absurd (cc)
 

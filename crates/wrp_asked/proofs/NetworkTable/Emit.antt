@@ -16,7 +16,8 @@ use Rattle.wrp_asked.proofs.OneSetting.{accepted_setting, node_there, one_node, 
 one_name : (a b : List ℕ) → requests.Emit a ≡ requests.Emit b → a ≡ b
 one_name a b e = cc
 
-same : (name : List ℕ) (s : Setting) (n : ℕ) (text : List ℕ) (other : Task) → (task_row other).command ≡ requests.Emit name → (task_row (Emit name s n)).IsIn text → (task_row other).IsIn text
+same : (name : List ℕ) (s : Setting) (n : ℕ) (text : List ℕ) (other : Task) → (task_row other).command ≡ requests.Emit name
+    → (task_row (Emit name s n)).IsIn text → (task_row other).IsIn text
     → bare_task other ≡ Emit name (bare_setting s) n
 same name s n text (Emit own t m) command p q =
     let names : own ≡ name = one_name own name command in
@@ -25,7 +26,8 @@ same name s n text (Emit own t m) command p q =
     ∙ ap₂ (λ (k : Setting) (i : ℕ). Emit name k i) (one_setting text t s q.0 p.0) (one_node text name t s m n q.0 p.0 there p.1)
 same name s n text other command p q = absurd (cc)
 
-named : (name : List ℕ) (s : Setting) (n : ℕ) (text : List ℕ) (net : Network) (own : List ℕ) → IsReadingOf text (Ok net) → (task_row (Emit name s n)).IsIn text → Some name ≡ Some own
+named : (name : List ℕ) (s : Setting) (n : ℕ) (text : List ℕ) (net : Network) (own : List ℕ) → IsReadingOf text (Ok net) → (task_row (Emit name s n)).IsIn text
+    → Some name ≡ Some own
     → node_named net.cfg own ≡ None → ⊥
 named name s n text net own reads p needs none =
     node_there text name net s n reads p.0 p.1 (subst (λ (o : List ℕ). node_named net.cfg o ≡ None) (sym (same_Some name own needs)) none)

@@ -22,7 +22,8 @@ one_name a b e = cc
 abbrev site_with : NetCfg → Database → ℕ → LineSetting
 site_with cfg db node = record { cfg = cfg; db = db; node = node }
 
-one_site : (name text : List ℕ) (a b : LineSetting) → IsNetworkOf text a → IsNetworkOf text b → node_named a.cfg name ≡ Some a.node → node_named b.cfg name ≡ Some b.node → a ≡ b
+one_site : (name text : List ℕ) (a b : LineSetting) → IsNetworkOf text a → IsNetworkOf text b → node_named a.cfg name ≡ Some a.node
+    → node_named b.cfg name ≡ Some b.node → a ≡ b
 one_site name text a b p q here there =
     let nets = one_reading text (Ok p.net) (Ok q.net) p.reads q.reads in
     let cfg : a.cfg ≡ b.cfg = p.cfg ∙ nets.0 ∙ sym q.cfg in
@@ -30,7 +31,8 @@ one_site name text a b p q here there =
     let node : a.node ≡ b.node = same_Some a.node b.node (sym here ∙ ap (λ (c : NetCfg). node_named c name) cfg ∙ there) in
     ap (λ (c : NetCfg). site_with c a.db a.node) cfg ∙ ap (λ (d : Database). site_with b.cfg d a.node) db ∙ ap (λ (n : ℕ). site_with b.cfg b.db n) node
 
-same : (name : List ℕ) (site : LineSetting) (text : List ℕ) (other : Task) → (task_row other).command ≡ requests.Replay name → (task_row (Replay name site)).IsIn text → (task_row other).IsIn text
+same : (name : List ℕ) (site : LineSetting) (text : List ℕ) (other : Task) → (task_row other).command ≡ requests.Replay name
+    → (task_row (Replay name site)).IsIn text → (task_row other).IsIn text
     → bare_task other ≡ Replay name site
 same name site text (Replay own other) command p q =
     let names : own ≡ name = one_name own name command in
@@ -38,7 +40,8 @@ same name site text (Replay own other) command p q =
     ap₂ (λ (o : List ℕ) (s : LineSetting). Replay o s) names (one_site name text other site q.0 p.0 there p.1)
 same name site text other command p q = absurd (cc)
 
-named : (name : List ℕ) (site : LineSetting) (text : List ℕ) (net : Network) (own : List ℕ) → IsReadingOf text (Ok net) → (task_row (Replay name site)).IsIn text → Some name ≡ Some own
+named : (name : List ℕ) (site : LineSetting) (text : List ℕ) (net : Network) (own : List ℕ) → IsReadingOf text (Ok net)
+    → (task_row (Replay name site)).IsIn text → Some name ≡ Some own
     → node_named net.cfg own ≡ None → ⊥
 named name site text net own reads p needs none =
     let nets = one_reading text (Ok net) (Ok p.0.net) reads p.0.reads in

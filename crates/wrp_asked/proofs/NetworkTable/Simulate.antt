@@ -16,7 +16,8 @@ unnamed name e = cc
 one_seed : (a b : ℕ) → requests.Simulate a ≡ requests.Simulate b → a ≡ b
 one_seed a b e = cc
 
-same : (s : Setting) (seed : ℕ) (text : List ℕ) (other : Task) → (task_row other).command ≡ requests.Simulate seed → IsSettingOf text s → (task_row other).IsIn text
+same : (s : Setting) (seed : ℕ) (text : List ℕ) (other : Task) → (task_row other).command ≡ requests.Simulate seed → IsSettingOf text s
+    → (task_row other).IsIn text
     → bare_task other ≡ Simulate (bare_setting s) seed
 same s seed text (Simulate t own) command p q = ap₂ (λ (k : Setting) (n : ℕ). Simulate k n) (one_setting text t s q p) (one_seed own seed command)
 same s seed text other command p q = absurd (cc)

@@ -48,7 +48,8 @@ pub returns-then-len-left-clause-taken : goal.returns-then-len-left-clause-taken
 returns-then-len-left-clause-taken g c =
     let other : is_separator c.next_line.new.line.items ≡ false = search rules in
     let size : network_limit < length c.lines.text.items + length c.next_line.new.line.items = let fits = c.lines.invariant.size in omega arith in
-    network_line_long c.next_line.new.line.items c.lines.text.items c.lines.text.items c.lines.reader c.next_line.new.reader _ _ _ c.lines.invariant.reached c.next_line.ensures.taken (c.in-Line.ensures.line refl) other size
+    network_line_long c.next_line.new.line.items c.lines.text.items c.lines.text.items c.lines.reader c.next_line.new.reader _ _ _ c.lines.invariant.reached c.next_line.ensures.taken
+    (c.in-Line.ensures.line refl) other size
 
 pub lines-preserved : goal.lines-preserved
 lines-preserved g c =

@@ -13,7 +13,8 @@ loop-out-init g c = λ s w stands.
 
 pub loop-out-preserved : goal.loop-out-preserved
 loop-out-preserved g c = λ s w stands.
-    lacks_less (λ out. line_by c.args.emit s w (step_seen out)) c.args.outs.now c.loop-out.out-index c.out-item.result c.loop-out.text.items c.append_one.new.text.items _
+    lacks_less
+    (λ out. line_by c.args.emit s w (step_seen out)) c.args.outs.now c.loop-out.out-index c.out-item.result c.loop-out.text.items c.append_one.new.text.items _
     c.loop-out-test.true (c.loop-out.invariant s w stands)
     (c.in_ok-append_one.ensures s w stands ∙ ap (λ (out : NodeOut). c.loop-out.text.items ++ line_by c.args.emit s w (step_seen out)) c.out-item.is)
 

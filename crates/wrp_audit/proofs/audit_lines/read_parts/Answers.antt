@@ -13,7 +13,8 @@ pub returns-in-Some-clause-value : goal.returns-in-Some-clause-value
 returns-in-Some-clause-value g c =
     let cfg = c.net.result.now.cfg in
     let said = c.read_event_into.ensures.value ∙ sym (read_parts (event_of cfg) c.args.line.now c.in-Some.row.now (rw c.in-Some.is at c.requires.split)) in
-    subst (λ (net : Network). IsReading (event_read net.cfg c.args.line.now) (told_in c.read_event_into.result (event_in c.read_event_into.new.place))) c.net.ensures
+    subst
+    (λ (net : Network). IsReading (event_read net.cfg c.args.line.now) (told_in c.read_event_into.result (event_in c.read_event_into.new.place))) c.net.ensures
     (is_reading (event_read cfg c.args.line.now) _ said)
 
 pub returns-in-None-clause-value : goal.returns-in-None-clause-value

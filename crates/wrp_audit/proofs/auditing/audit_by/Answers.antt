@@ -11,11 +11,14 @@ use Rattle.wrp_audit.proofs.AuditSteps.{audit_passes, nothing_accepted}
 use Rattle.wrp_audit.proofs.auditing.audit_by.Goals as goal
 
 pub run_lines-requires-clause-fresh : goal.run_lines-requires-clause-fresh
-run_lines-requires-clause-fresh g c = (c.in-Ok.ensures.taken, nothing_accepted c.in-Ok.machine.network.emit (setting_in c.in-Ok.machine.network.world.plant.net))
+run_lines-requires-clause-fresh g c =
+    (c.in-Ok.ensures.taken, nothing_accepted c.in-Ok.machine.network.emit (setting_in c.in-Ok.machine.network.world.plant.net))
 
 pub returns-in-Err : goal.returns-in-Err
 returns-in-Err g c = record {
-  passes = passes_nothing (meaning_for c.args.emit (setting_in c.args.net.value)) _ _ c.args.reader.now.rest c.args.reader.now.ended (nothing_accepted c.args.emit (setting_in c.args.net.value))
+  passes =
+      passes_nothing (meaning_for c.args.emit (setting_in c.args.net.value)) _ _ c.args.reader.now.rest c.args.reader.now.ended
+      (nothing_accepted c.args.emit (setting_in c.args.net.value))
       (Consumes-nil _) (Appends-nil _) c.requires.at_end refl refl;
 }
 
@@ -24,10 +27,14 @@ returns-in-Ok g c =
     let source : Passage (List ℕ) = passage g.S.Source.left g.S.Source.faults c.args.source.now c.run_lines.new.source in
     let sink : Passage (List ℕ) = passage g.K.Sink.held g.K.Sink.faults c.args.sink.now c.run_lines.new.sink in
     let machine = c.in-Ok.machine.network in
-    let own = audit_passes machine.emit (setting_in machine.world.plant.net) source sink c.args.reader.now.rest c.args.reader.now.ended c.run_lines.new.reader.ended c.run_lines.result c.run_lines.ensures.passes in
+    let own =
+    audit_passes machine.emit
+    (setting_in machine.world.plant.net) source sink c.args.reader.now.rest c.args.reader.now.ended c.run_lines.new.reader.ended c.run_lines.result c.run_lines.ensures.passes in
     let net = subst (λ (k : Network). Passes (of_lines (meaning_for machine.emit (setting_in k))) source sink c.args.reader.now.rest c.args.reader.now.ended c.run_lines.new.reader.ended [] c.run_lines.result)
     c.in-Ok.ensures.net own in
     record {
-      passes = subst (λ (k : Option ℕ). Passes (of_lines (meaning_for k (setting_in c.args.net.value))) source sink c.args.reader.now.rest c.args.reader.now.ended c.run_lines.new.reader.ended [] c.run_lines.result)
+      passes =
+          subst
+          (λ (k : Option ℕ). Passes (of_lines (meaning_for k (setting_in c.args.net.value))) source sink c.args.reader.now.rest c.args.reader.now.ended c.run_lines.new.reader.ended [] c.run_lines.result)
           c.in-Ok.ensures.emit net;
     }

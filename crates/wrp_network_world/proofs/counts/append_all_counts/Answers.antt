@@ -23,4 +23,5 @@ pub returns : goal.returns
 returns g c = λ s w stands.
     let count = c.count_of-count.ensures ∙ ap (λ (net : Network). node_count net.cfg) c.net.ensures in
     let test = c.loop-node-test.false in
-    no_node_less s w _ c.loop-node.node c.loop-node.text.items _ (omega (arith, test, count)) (ap node_count stands.plant.cfg) (c.loop-node.invariant.lacks s w stands)
+    no_node_less s w _ c.loop-node.node c.loop-node.text.items _ (omega (arith, test, count)) (ap node_count stands.plant.cfg)
+    (c.loop-node.invariant.lacks s w stands)

@@ -17,11 +17,13 @@ returns-clause-may g c = may_end _ c.run_command.result c.run_command.ensures.en
 
 pub returns-clause-due : goal.returns-clause-due
 returns-clause-due g c = λ status octets calls is told.
-    told_one (record { run = c.one_run.ensures.run; node = c.one_run.ensures.node; audit = c.one_audit.ensures; last = c.told_last.ensures }) _ c.run_command.result status octets calls c.run_command.ensures.ends is told
+    told_one
+    (record { run = c.one_run.ensures.run; node = c.one_run.ensures.node; audit = c.one_audit.ensures; last = c.told_last.ensures }) _ c.run_command.result status octets calls c.run_command.ensures.ends is told
 
 pub returns-clause-complete : goal.returns-clause-complete
 returns-clause-complete g c = λ status octets calls memory reads writes links told.
-    told_one (record { run = c.one_run.ensures.run; node = c.one_run.ensures.node; audit = c.one_audit.ensures; last = c.told_last.ensures }) _ c.run_command.result status octets calls c.run_command.ensures.ends
+    told_one
+    (record { run = c.one_run.ensures.run; node = c.one_run.ensures.node; audit = c.one_audit.ensures; last = c.told_last.ensures }) _ c.run_command.result status octets calls c.run_command.ensures.ends
     (ends_answered _ c.run_command.result c.run_command.ensures.ends memory reads writes links) told
 
 pub returns-clause-headline : goal.returns-clause-headline
@@ -34,10 +36,12 @@ pub returns-clause-replayed : goal.returns-clause-replayed
 returns-clause-replayed g c = λ name replays. c.replays_are_told.ensures _ c.run_command.result name c.run_command.ensures.ends replays
 
 pub returns-clause-simulated : goal.returns-clause-simulated
-returns-clause-simulated g c = λ seed simulates. simulation_told c.made_events_carry_parts.ensures _ c.run_command.result seed c.run_command.ensures.ends simulates
+returns-clause-simulated g c =
+    λ seed simulates. simulation_told c.made_events_carry_parts.ensures _ c.run_command.result seed c.run_command.ensures.ends simulates
 
 pub returns-clause-looped : goal.returns-clause-looped
-returns-clause-looped g c = λ seed looping. looped_told c.looped_events_carry_parts.ensures c.loop_is_audited.ensures _ c.run_command.result seed c.run_command.ensures.ends looping
+returns-clause-looped g c =
+    λ seed looping. looped_told c.looped_events_carry_parts.ensures c.loop_is_audited.ensures _ c.run_command.result seed c.run_command.ensures.ends looping
 
 pub returns-clause-aimed : goal.returns-clause-aimed
 returns-clause-aimed g c = aimed _ c.run_command.result c.run_command.ensures.ends

@@ -21,7 +21,9 @@ returns-in-Ok-Some-OnNetwork-clause-linked g c = unlinked _ _ _ c.run_network.re
 
 pub returns-in-Ok-Some-OnNetwork-clause-unread : goal.returns-in-Ok-Some-OnNetwork-clause-unread
 returns-in-Ok-Some-OnNetwork-clause-unread g c = λ none.
-    let has = subst (AsksSo (asked_in c.args.words.now)) (c.in-Ok-Some-OnNetwork.field-0-is ∙ ap Some c.in-Ok-Some-OnNetwork.field-0-0-is) c.in-Ok-Some-OnNetwork.ensures in
+    let has =
+    subst (AsksSo (asked_in c.args.words.now))
+    (c.in-Ok-Some-OnNetwork.field-0-is ∙ ap Some c.in-Ok-Some-OnNetwork.field-0-0-is) c.in-Ok-Some-OnNetwork.ensures in
     absurd (none (networked_command (asked_in c.args.words.now) (asked_networked (asked_in c.args.words.now) c.in-Ok-Some-OnNetwork.asked has)))
 
 pub returns-in-Ok-Some-Alone-clause-ends : goal.returns-in-Ok-Some-Alone-clause-ends
@@ -36,7 +38,8 @@ returns-in-Ok-Some-Alone-clause-unread g c = λ none.
     absurd (none (alone_command (asked_in c.args.words.now) c.in-Ok-Some-Alone.alone has))
 
 pub run_loop-requires : goal.run_loop-requires
-run_loop-requires g c = subst (AsksSo (asked_in c.args.words.now)) (c.in-Ok-Some-Loop.field-0-is ∙ ap Some c.in-Ok-Some-Loop.field-0-0-is) c.in-Ok-Some-Loop.ensures
+run_loop-requires g c =
+    subst (AsksSo (asked_in c.args.words.now)) (c.in-Ok-Some-Loop.field-0-is ∙ ap Some c.in-Ok-Some-Loop.field-0-0-is) c.in-Ok-Some-Loop.ensures
 
 pub returns-in-Ok-Some-Loop-clause-unread : goal.returns-in-Ok-Some-Loop-clause-unread
 returns-in-Ok-Some-Loop-clause-unread g c = λ none.

@@ -19,7 +19,8 @@ returns-in-TooLong-clause-ends g c = λ link same.
       link = link;
     } in
     let taken = c.take_network-text.ensures.taken in
-    let long = subst (λ (e : HowItEnded). NetworkOutcome e taken.0 c.take_network-text.result.text.items c.take_network-text.new.reader) c.in-TooLong.is taken.2 in
+    let long =
+    subst (λ (e : HowItEnded). NetworkOutcome e taken.0 c.take_network-text.result.text.items c.take_network-text.new.reader) c.in-TooLong.is taken.2 in
     size_ends run c.answer.result taken.0 c.take_network-text.new.reader c.requires.networked taken.1 long c.take_network-text.ensures.at_end
     (rw c.as_bytes.ensures.value at c.answer.ensures.how) c.answer.ensures.rose (uncalled link same)
 
@@ -32,13 +33,15 @@ returns-in-Failed-clause-ends g c = λ link same.
       link = link;
     } in
     let taken = c.take_network-text.ensures.taken in
-    let cut = subst (λ (e : HowItEnded). NetworkOutcome e taken.0 c.take_network-text.result.text.items c.take_network-text.new.reader) c.in-Failed.is taken.2 in
+    let cut =
+    subst (λ (e : HowItEnded). NetworkOutcome e taken.0 c.take_network-text.result.text.items c.take_network-text.new.reader) c.in-Failed.is taken.2 in
     network_fails run taken.0 c.requires.networked taken.1 cut (Appends-nil _) (c.take_network-text.ensures.rose c.in-Failed.is) (uncalled link same)
 
 pub returns-in-Ok-clause-front : goal.returns-in-Ok-clause-front
 returns-in-Ok-clause-front g c =
     let taken = c.take_network-text.ensures.taken in
-    let whole = subst (λ (e : HowItEnded). NetworkOutcome e taken.0 c.take_network-text.result.text.items c.take_network-text.new.reader) c.in-Whole.is taken.2 in
+    let whole =
+    subst (λ (e : HowItEnded). NetworkOutcome e taken.0 c.take_network-text.result.text.items c.take_network-text.new.reader) c.in-Whole.is taken.2 in
     record {
       network = taken.0;
       taken = taken.1;
@@ -57,7 +60,8 @@ returns-in-Err-clause-ends g c = λ link same.
       link = link;
     } in
     let taken = c.take_network-text.ensures.taken in
-    let whole = subst (λ (e : HowItEnded). NetworkOutcome e taken.0 c.take_network-text.result.text.items c.take_network-text.new.reader) c.in-Whole.is taken.2 in
+    let whole =
+    subst (λ (e : HowItEnded). NetworkOutcome e taken.0 c.take_network-text.result.text.items c.take_network-text.new.reader) c.in-Whole.is taken.2 in
     let reads = subst (λ (t : List ℕ). IsReadingOf t (Err c.in-Err.fault)) c.deref.ensures.value c.in-Err.ensures.refused in
     refused_ends run c.refuse_network.result taken.0 c.take_network-text.result.text.items c.in-Err.fault c.take_network-text.new.reader c.requires.networked taken.1 whole.0 whole.1
     c.take_network-text.ensures.at_end reads c.refuse_network.ensures.how c.refuse_network.ensures.rose (uncalled link same)

@@ -25,7 +25,8 @@ returns-in-Err-clause-ends g c = λ first front.
       link = passage g.N.Link.told g.N.Link.faults c.args.link.now c.args.link.now;
     } in
     let reads = subst (λ (t : List ℕ). IsReadingOf t (Err c.in-Err.fault)) c.deref.ensures.value c.in-Err.ensures.refused in
-    refused_ends run c.refuse_network.result front.network text c.in-Err.fault c.args.reader.now (requests.Loop c.args.seed, c.requires.asks) front.taken front.divided front.within
+    refused_ends run c.refuse_network.result front.network text c.in-Err.fault c.args.reader.now
+    (requests.Loop c.args.seed, c.requires.asks) front.taken front.divided front.within
     front.at_end reads c.refuse_network.ensures.how c.refuse_network.ensures.rose (uncalled run.link refl)
 
 pub returns-in-Err-clause-read : goal.returns-in-Err-clause-read
@@ -37,7 +38,8 @@ returns-in-Err-clause-linked g c = refused_unlinked c.in-Err.fault c.refuse_netw
 pub run_on-requires-clause-same : goal.run_on-requires-clause-same
 run_on-requires-clause-same g c =
     let own = subst (λ (t : List ℕ). IsReadingOf t (Ok c.in-Ok.own.value)) c.deref.ensures.value c.in-Ok.ensures.reads in
-    subst (λ (net : Network). IsSameNetwork net c.in-Ok.own.value) (sym c.deref-2.ensures) (one_reading c.args.front.text.items (Ok c.args.front.net.value) (Ok c.in-Ok.own.value) c.requires.reads own)
+    subst (λ (net : Network). IsSameNetwork net c.in-Ok.own.value) (sym c.deref-2.ensures)
+    (one_reading c.args.front.text.items (Ok c.args.front.net.value) (Ok c.in-Ok.own.value) c.requires.reads own)
 
 pub returns-clause-ends : goal.returns-clause-ends
 returns-clause-ends g c = λ first front.
@@ -51,5 +53,7 @@ returns-clause-ends g c = λ first front.
       at_end = front.at_end;
       asks = (front.within, c.requires.asks, record { net = c.in-Ok.own.value; reads = own; is = refl });
     } in
-    loop_ends asked first (passage g.S.Source.left g.S.Source.faults c.args.source.now c.run_on.new.source) (passage g.K.Sink.held g.K.Sink.faults c.args.sink.now c.run_on.new.sink)
-    (passage g.N.Link.told g.N.Link.faults c.args.link.now c.run_on.new.link) text c.args.reader.now c.run_on.new.reader.ended (setting_in c.in-Ok.own.value) c.args.seed c.run_on.result network c.run_on.ensures.passes
+    loop_ends asked first (passage g.S.Source.left g.S.Source.faults c.args.source.now c.run_on.new.source)
+    (passage g.K.Sink.held g.K.Sink.faults c.args.sink.now c.run_on.new.sink)
+    (passage g.N.Link.told g.N.Link.faults c.args.link.now c.run_on.new.link) text c.args.reader.now c.run_on.new.reader.ended
+    (setting_in c.in-Ok.own.value) c.args.seed c.run_on.result network c.run_on.ensures.passes

@@ -28,7 +28,9 @@ loop-n-preserved g c =
     let law = c.new-law.ensures in
     let made = made_next (λ f. f.0) c.args.net.now c.loop-n.n c.law_above-above.result c.asked-asked_law.result c.new-law.result c.kept_if.result
     c.law_above-above.ensures.some c.law_above-above.ensures.law c.asked-asked_law.ensures.same
-    (ap (λ v. v.closure.0) law) (ap (λ v. v.kind) law ∙ c.kind.ensures) (ap (λ v. v.lo) law ∙ to_z-of_z w64 c.lo.result (record { sfits = c.lo.type_inv }) ∙ c.lo.ensures) (ap (λ v. v.hi) law ∙ to_z-of_z w64 c.hi.result (record { sfits = c.hi.type_inv }) ∙ c.hi.ensures) (ap (λ v. v.err) law ∙ c.err.ensures)
+    (ap (λ v. v.closure.0) law) (ap (λ v. v.kind) law ∙ c.kind.ensures)
+    (ap (λ v. v.lo) law ∙ to_z-of_z w64 c.lo.result (record { sfits = c.lo.type_inv }) ∙ c.lo.ensures)
+    (ap (λ v. v.hi) law ∙ to_z-of_z w64 c.hi.result (record { sfits = c.hi.type_inv }) ∙ c.hi.ensures) (ap (λ v. v.err) law ∙ c.err.ensures)
     (c.kept_if.ensures ∙ ap (λ b. if b then Some c.new-law.result else None) c.is_some.ensures) in
     record {
       within = omega (arith, test, count);
@@ -50,4 +52,6 @@ run_over-requires-clause-laws g c =
     c.requires.own c.requires.same (omega (arith, same, count, laws, within, test)) c.loop-n.invariant.made
 
 pub returns-in-Err-clause-passes : goal.returns-in-Err-clause-passes
-returns-in-Err-clause-passes g c = passes_none (setting_in c.args.own.value) c.args.seed _ _ _ c.args.reader.now.rest c.args.reader.now.ended (Consumes-nil _) (Appends-nil _) refl c.requires.at_end refl refl refl
+returns-in-Err-clause-passes g c =
+    passes_none (setting_in c.args.own.value) c.args.seed _ _ _ c.args.reader.now.rest c.args.reader.now.ended (Consumes-nil _)
+    (Appends-nil _) refl c.requires.at_end refl refl refl

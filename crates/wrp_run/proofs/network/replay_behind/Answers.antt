@@ -15,7 +15,8 @@ use Rattle.wrp_run.proofs.network.replay_behind.Goals as goal
 
 pub replay-requires-clause-node : goal.replay-requires-clause-node
 replay-requires-clause-node g c =
-    subst (λ (net : Network). c.args.node < node_count net.cfg) (sym c.deref-net.ensures) (found_place _ c.args.front.net.value.cfg.nodes.items c.args.node c.requires.named).within
+    subst (λ (net : Network). c.args.node < node_count net.cfg) (sym c.deref-net.ensures)
+    (found_place _ c.args.front.net.value.cfg.nodes.items c.args.node c.requires.named).within
 
 pub returns-clause-ends : goal.returns-clause-ends
 returns-clause-ends g c = λ first front.
@@ -33,5 +34,6 @@ returns-clause-ends g c = λ first front.
     (λ (net : Network). Passes (of_lines (meaning_of (bare_setting (line_setting_of net c.args.node)))) (passage g.S.Source.left g.S.Source.faults c.args.source.now c.replay.new.source)
     (passage g.K.Sink.held g.K.Sink.faults c.args.sink.now c.replay.new.sink) c.args.reader.now.rest c.args.reader.now.ended c.replay.new.reader.ended [] c.replay.result)
     c.deref-net.ensures c.replay.ensures.passes in
-    records_end asked first (passage g.S.Source.left g.S.Source.faults c.args.source.now c.replay.new.source) (passage g.K.Sink.held g.K.Sink.faults c.args.sink.now c.replay.new.sink)
+    records_end asked first (passage g.S.Source.left g.S.Source.faults c.args.source.now c.replay.new.source)
+    (passage g.K.Sink.held g.K.Sink.faults c.args.sink.now c.replay.new.sink)
     text c.args.reader.now c.replay.new.reader.ended (Replay c.args.name.now site) c.replay.result network passes

@@ -30,7 +30,9 @@ loop-n-preserved g c =
     let law = c.new-law.ensures in
     let made = made_next (λ f. f.0) c.args.net.now c.loop-n.n c.law_above-above.result c.asked-link.result c.new-law.result c.kept_if.result
     c.law_above-above.ensures.some c.law_above-above.ensures.law c.asked-link.ensures.same
-    (ap (λ v. v.closure.0) law) (ap (λ v. v.kind) law ∙ c.kind.ensures) (ap (λ v. v.lo) law ∙ to_z-of_z w64 c.lo.result (record { sfits = c.lo.type_inv }) ∙ c.lo.ensures) (ap (λ v. v.hi) law ∙ to_z-of_z w64 c.hi.result (record { sfits = c.hi.type_inv }) ∙ c.hi.ensures) (ap (λ v. v.err) law ∙ c.err.ensures)
+    (ap (λ v. v.closure.0) law) (ap (λ v. v.kind) law ∙ c.kind.ensures)
+    (ap (λ v. v.lo) law ∙ to_z-of_z w64 c.lo.result (record { sfits = c.lo.type_inv }) ∙ c.lo.ensures)
+    (ap (λ v. v.hi) law ∙ to_z-of_z w64 c.hi.result (record { sfits = c.hi.type_inv }) ∙ c.hi.ensures) (ap (λ v. v.err) law ∙ c.err.ensures)
     (c.kept_if.ensures ∙ ap (λ b. if b then Some c.new-law.result else None) c.is_some.ensures) in
     record {
       within = omega (arith, test, count);
@@ -53,6 +55,8 @@ work_by-requires-clause-laws g c =
 
 pub returns-in-Err : goal.returns-in-Err
 returns-in-Err g c = record {
-  passes = passes_nothing (work_meaning c.args.work (setting_in c.args.own.value)) _ _ c.args.reader.now.rest c.args.reader.now.ended (nothing_done c.args.work (setting_in c.args.own.value))
+  passes =
+      passes_nothing (work_meaning c.args.work (setting_in c.args.own.value)) _ _ c.args.reader.now.rest c.args.reader.now.ended
+      (nothing_done c.args.work (setting_in c.args.own.value))
       (Consumes-nil _) (Appends-nil _) c.requires.at_end refl refl;
 }

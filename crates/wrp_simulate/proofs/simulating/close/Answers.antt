@@ -9,7 +9,8 @@ use Rattle.wrp_simulate.proofs.simulating.close.Goals as goal
 pub returns-in-Ok-clause-closes : goal.returns-in-Ok-clause-closes
 returns-in-Ok-clause-closes g c = λ s w offs stands totals.
     let lines = c.in-Ok.ensures s w offs stands (subst (λ (items : List Total). AreTotals offs items) (sym c.deref.ensures.value) totals) in
-    inr (subst (λ (text : List ℕ). Finishes Done c.answer.result (g.K.Sink.held c.args.sink.now) (g.K.Sink.held c.answer.new.sink) text) (c.deref-in-Ok.ensures.value ∙ lines) c.answer.ensures.how)
+    inr
+    (subst (λ (text : List ℕ). Finishes Done c.answer.result (g.K.Sink.held c.args.sink.now) (g.K.Sink.held c.answer.new.sink) text) (c.deref-in-Ok.ensures.value ∙ lines) c.answer.ensures.how)
 
 pub returns-in-Ok-clause-never : goal.returns-in-Ok-clause-never
 returns-in-Ok-clause-never g c = λ is.

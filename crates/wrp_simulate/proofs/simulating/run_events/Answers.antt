@@ -74,7 +74,8 @@ pub returns-in-Ok-Over-clause-never : goal.returns-in-Ok-Over-clause-never
 returns-in-Ok-Over-clause-never g c = c.close.ensures.never
 
 pub returns-in-Ok-TooLarge-clause-rose : goal.returns-in-Ok-TooLarge-clause-rose
-returns-in-Ok-TooLarge-clause-rose g c = λ is. subst (λ (n : ℕ). Rose n (g.K.Sink.faults c.overrun.new.sink)) c.events.invariant.sink (c.overrun.ensures.rose is)
+returns-in-Ok-TooLarge-clause-rose g c =
+    λ is. subst (λ (n : ℕ). Rose n (g.K.Sink.faults c.overrun.new.sink)) c.events.invariant.sink (c.overrun.ensures.rose is)
 
 pub returns-in-Ok-TooLarge-clause-kept : goal.returns-in-Ok-TooLarge-clause-kept
 returns-in-Ok-TooLarge-clause-kept g c = λ other. c.overrun.ensures.kept other ∙ c.events.invariant.sink

@@ -34,7 +34,8 @@ run_events-requires-clause-run g c =
 pub returns-clause-stands : goal.returns-clause-stands
 returns-clause-stands g c =
     let net = c.in-Ok-new.ensures.net in
-    subst (λ (k : Network). Closed (λ lines. IsScenario (setting_in k) lines c.args.scene) (simulation_of (setting_in k) c.args.seed) c.run_events.result (g.K.Sink.held c.args.sink.now) (g.K.Sink.held c.run_events.new.sink)) net
+    subst
+    (λ (k : Network). Closed (λ lines. IsScenario (setting_in k) lines c.args.scene) (simulation_of (setting_in k) c.args.seed) c.run_events.result (g.K.Sink.held c.args.sink.now) (g.K.Sink.held c.run_events.new.sink)) net
     (c.run_events.ensures.stands c.args.seed (setting_in c.in-Ok-new.network.world.plant.net) c.args.scene
     (first_run c.args.seed c.args.scene c.in-Ok-new.network c.in-Ok.course
     (subst (λ (k : Network). StandsFor (λ f x y. g.F.Fn.post f (x, tt) y) (setting_in k) (new_world (setting_in k)) c.in-Ok-new.network.world) (sym net) c.in-Ok-new.ensures.stands)

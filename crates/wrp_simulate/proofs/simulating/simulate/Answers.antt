@@ -41,7 +41,8 @@ returns g c =
           (passage g.K.Sink.held g.K.Sink.faults c.args.sink.now c.run_scene.new.sink) c.args.reader.now.rest c.args.reader.now.ended c.handle_records.new.reader.ended [] c.run_scene.result)
           same
           (passes_closed (simulation_of (setting_in net) c.args.seed) (SaysScenario c.handle_records.new.machine) _ _ _ _ _ _ _ c.args.reader.now.rest c.args.reader.now.ended c.handle_records.new.reader
-          c.run_scene.result c.in-Done.ensures.stands how c.in-Done.ensures.at_end c.in-Done.ensures.ended (c.in-Done.ensures.read_kept not_read) c.run_scene.ensures.never
+          c.run_scene.result c.in-Done.ensures.stands how c.in-Done.ensures.at_end c.in-Done.ensures.ended
+          (c.in-Done.ensures.read_kept not_read) c.run_scene.ensures.never
           (c.in-Done.ensures.write_kept not_write) c.run_scene.ensures.rose c.run_scene.ensures.kept);
     }
 

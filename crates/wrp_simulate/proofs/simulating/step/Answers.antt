@@ -26,7 +26,8 @@ happen-requires-clause-accepted g c =
 
 pub add_tracks-requires-clause-nodes : goal.add_tracks-requires-clause-nodes
 add_tracks-requires-clause-nodes g c =
-    subst (λ (outs : List NodeOut). AllByRecursion (λ (out : NodeOut). out.node < node_count c.happen.new.self.world.plant.net.cfg) outs) (sym c.deref.ensures.value) c.in_ok-happen.ensures.nodes
+    subst (λ (outs : List NodeOut). AllByRecursion (λ (out : NodeOut). out.node < node_count c.happen.new.self.world.plant.net.cfg) outs)
+    (sym c.deref.ensures.value) c.in_ok-happen.ensures.nodes
 
 pub returns-then-not-next_into-clause-steps : goal.returns-then-not-next_into-clause-steps
 returns-then-not-next_into-clause-steps g c = λ seed s scene events at h.
@@ -53,7 +54,8 @@ returns-clause-steps g c = λ seed s scene events at h.
     (event_comes c.simulator_keeps_the_bounds.ensures.runs seed s scene c.args.network.now c.args.course.now events at c.next_into.new.self c.next_into.new.event h c.requires.ready c.requires.course
     (one_put c.args.network.now.world c.args.course.now.sim c.next_into.new.self c.next_into.result c.next_into.new.event c.next_into.ensures.follows some))
     c.next_into.ensures.stays.scene c.happen.ensures.ready c.happen.ensures.net c.in_ok-happen.ensures.steps c.in_ok-happen.ensures.wrote
-    (rw c.deref.ensures.value at c.add_tracks.ensures.each) refl (let other = c.if-course.false in let below = c.requires.course.below in omega (arith, other, below))
+    (rw c.deref.ensures.value at c.add_tracks.ensures.each) refl
+    (let other = c.if-course.false in let below = c.requires.course.below in omega (arith, other, below))
 
 pub returns-clause-course : goal.returns-clause-course
 returns-clause-course g c = record {

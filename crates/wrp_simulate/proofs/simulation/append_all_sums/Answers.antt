@@ -36,4 +36,5 @@ pub returns : goal.returns
 returns g c = λ s w offs stands totals.
     let count = c.count_of-count.ensures ∙ ap (λ (net : Network). node_count net.cfg) c.net.ensures in
     let test = c.loop-node-test.false in
-    no_sum_less s w offs _ c.loop-node.node c.loop-node.text.items _ (omega (arith, test, count)) (ap node_count stands.plant.cfg) (c.loop-node.invariant.lacks s w offs stands totals)
+    no_sum_less s w offs _ c.loop-node.node c.loop-node.text.items _ (omega (arith, test, count)) (ap node_count stands.plant.cfg)
+    (c.loop-node.invariant.lacks s w offs stands totals)

@@ -41,7 +41,8 @@ loop-out-preserved g c =
       count = length-set c.loop-out.totals.items c.from-at.result c.with_all.result ∙ now;
       adds = λ s w stands.
           adds_at w c.args.outs.now c.loop-out.out-index c.out-item.result c.from-at.result _ c.deref.result.now c.args.totals.now.items c.loop-out.totals.items c.index.result.now c.with_all.result
-          c.loop-out-test.true (c.loop-out.invariant.adds s w stands) c.out-item.is at (let off = c.off.ensures s w stands in search (off, to_z-of_z, rules)) c.deref.ensures.0
+          c.loop-out-test.true (c.loop-out.invariant.adds s w stands) c.out-item.is at
+          (let off = c.off.ensures s w stands in search (off, to_z-of_z, rules)) c.deref.ensures.0
           (slice_get_read c.loop-out.totals.items _ c.from-at.result c.index.result.now refl (omega (arith, within, at, now, all)) c.index.ensures) c.with_all.ensures;
     }
 

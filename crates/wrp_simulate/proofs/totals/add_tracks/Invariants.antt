@@ -10,5 +10,6 @@ abbrev pub invariant-loop-out : goal.invariant-loop-out
 invariant-loop-out g l =
     record {
       count : length l.totals.items ≡ length l.fn.totals.items;
-      adds : (s : Setting) (w : WorldAt) → StandsFor (λ f x y. g.F.Fn.post f (x, tt) y) s w l.world → AddsTo w l.outs l.out-index l.fn.totals.items l.totals.items;
+      adds : (s : Setting) (w : WorldAt) → StandsFor (λ f x y. g.F.Fn.post f (x, tt) y) s w l.world
+          → AddsTo w l.outs l.out-index l.fn.totals.items l.totals.items;
     }

@@ -39,16 +39,20 @@ returns-in-Err-Memory-clause-ready g c =
     can_stay c.args.self.now _ c.requires.ready c.step_into.ensures.valid c.step_into.ensures.net refl refl c.step_into.ensures.laws
 
 pub returns-in_ok-write-in-Ok-clause-count : goal.returns-in_ok-write-in-Ok-clause-count
-returns-in_ok-write-in-Ok-clause-count g c = counts_one c.event.result.now c.args.self.now.world c.step_into.new.self c.step_into.new.outs.items c.requires.ready.valid c.in-Ok.ensures.steps
+returns-in_ok-write-in-Ok-clause-count g c =
+    counts_one c.event.result.now c.args.self.now.world c.step_into.new.self c.step_into.new.outs.items c.requires.ready.valid c.in-Ok.ensures.steps
 
 pub returns-in_err-write-in-Ok-clause-count : goal.returns-in_err-write-in-Ok-clause-count
-returns-in_err-write-in-Ok-clause-count g c = counts_one c.event.result.now c.args.self.now.world c.step_into.new.self c.step_into.new.outs.items c.requires.ready.valid c.in-Ok.ensures.steps
+returns-in_err-write-in-Ok-clause-count g c =
+    counts_one c.event.result.now c.args.self.now.world c.step_into.new.self c.step_into.new.outs.items c.requires.ready.valid c.in-Ok.ensures.steps
 
 pub returns-in_ok-append_broken-in-Err-Broken-clause-count : goal.returns-in_ok-append_broken-in-Err-Broken-clause-count
-returns-in_ok-append_broken-in-Err-Broken-clause-count g c = counts_none c.args.self.now.world c.step_into.new.self c.requires.ready.valid c.in-Err-Broken.ensures.stays
+returns-in_ok-append_broken-in-Err-Broken-clause-count g c =
+    counts_none c.args.self.now.world c.step_into.new.self c.requires.ready.valid c.in-Err-Broken.ensures.stays
 
 pub returns-in_err-append_broken-in-Err-Broken-clause-count : goal.returns-in_err-append_broken-in-Err-Broken-clause-count
-returns-in_err-append_broken-in-Err-Broken-clause-count g c = counts_none c.args.self.now.world c.step_into.new.self c.requires.ready.valid c.in-Err-Broken.ensures.stays
+returns-in_err-append_broken-in-Err-Broken-clause-count g c =
+    counts_none c.args.self.now.world c.step_into.new.self c.requires.ready.valid c.in-Err-Broken.ensures.stays
 
 pub returns-in-Err-Memory-clause-count : goal.returns-in-Err-Memory-clause-count
 returns-in-Err-Memory-clause-count g c = counts_none c.args.self.now.world c.step_into.new.self c.requires.ready.valid c.in-Err-Memory.ensures.stays
@@ -58,12 +62,15 @@ write-requires-clause-nodes g c =
     let valid = c.requires.ready.valid in
     let own = valid.stands.plant.cfg in
     let within = nodes_within _ valid.setting valid.state c.event.result.now c.args.self.now.world c.step_into.new.self c.step_into.new.outs.items valid.stands c.in-Ok.ensures.steps
-    (subst IsTree own valid.plant.accepted.tree) (subst (λ (cfg : NetCfg). IsEventOf cfg c.event.result.now) own (subst (IsEventOf c.args.self.now.world.plant.net.cfg) (sym c.event.ensures) c.requires.event)) in
-    subst (λ (cfg : NetCfg). AllByRecursion (λ (out : NodeOut). out.node < node_count cfg) c.step_into.new.outs.items) (sym own ∙ ap (λ (net : Network). net.cfg) (sym c.step_into.ensures.net)) within
+    (subst IsTree own valid.plant.accepted.tree)
+    (subst (λ (cfg : NetCfg). IsEventOf cfg c.event.result.now) own (subst (IsEventOf c.args.self.now.world.plant.net.cfg) (sym c.event.ensures) c.requires.event)) in
+    subst (λ (cfg : NetCfg). AllByRecursion (λ (out : NodeOut). out.node < node_count cfg) c.step_into.new.outs.items)
+    (sym own ∙ ap (λ (net : Network). net.cfg) (sym c.step_into.ensures.net)) within
 
 pub returns-in_ok-write-in-Ok-clause-happens : goal.returns-in_ok-write-in-Ok-clause-happens
 returns-in_ok-write-in-Ok-clause-happens g c = λ w stood.
-    took_at _ c.args.self.now.emit (setting_in c.args.self.now.world.plant.net) w (event_in c.args.place.now) c.event.result.now c.args.self.now.world c.step_into.new.self c.step_into.new.outs.items c.write.new.text.items c.event.ensures stood c.in-Ok.ensures.steps
+    took_at _ c.args.self.now.emit (setting_in c.args.self.now.world.plant.net) w
+    (event_in c.args.place.now) c.event.result.now c.args.self.now.world c.step_into.new.self c.step_into.new.outs.items c.write.new.text.items c.event.ensures stood c.in-Ok.ensures.steps
     (λ v stands. behind_none (c.in_ok-write-in-Ok.ensures _ v stands) c.requires.none)
 
 pub returns-in_ok-append_broken-in-Err-Broken-clause-happens : goal.returns-in_ok-append_broken-in-Err-Broken-clause-happens

@@ -7,5 +7,7 @@ use Rattle.wrp_audit.proofs.audit_lines.AuditLines.new.Goals as goal
 pub returns-clause-ready : goal.returns-clause-ready
 returns-clause-ready g c = record {
   network = c.in_ok-network.ensures.ready;
-  place = subst (λ (net : Network). IsPlaceOf net.cfg c.new-place.result) (c.deref.ensures ∙ sym c.into_inner.ensures ∙ sym c.in_ok-network.ensures.net) c.new-place.ensures;
+  place =
+      subst (λ (net : Network). IsPlaceOf net.cfg c.new-place.result)
+      (c.deref.ensures ∙ sym c.into_inner.ensures ∙ sym c.in_ok-network.ensures.net) c.new-place.ensures;
 }

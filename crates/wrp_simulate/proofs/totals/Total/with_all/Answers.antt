@@ -25,5 +25,7 @@ loop-out-preserved c =
 
 pub returns : goal.returns
 returns c =
-    subst (λ (off : ℤ). (offs : List ℤ) → IsTotal offs c.args.self → IsTotal (map (λ (o : Output). off) (filter is_track c.args.outs.now) ++ offs) c.loop-out.total) (to_z-of_z w128 c.args.off c.ranges.off)
+    subst
+    (λ (off : ℤ). (offs : List ℤ) → IsTotal offs c.args.self → IsTotal (map (λ (o : Output). off) (filter is_track c.args.outs.now) ++ offs) c.loop-out.total)
+    (to_z-of_z w128 c.args.off c.ranges.off)
     (counted_all (to_z w128 (of_z w128 c.args.off)) c.args.outs.now c.loop-out.out-index c.args.self c.loop-out.total c.loop-out-test.false c.loop-out.invariant)
