@@ -1,34 +1,30 @@
 -- No line that an emission prints begins as that of an estimate in TRACK does: the lines of inputs are one word, and the third
 -- word of each other line begins with a digit, a capital or an `a`.
-use Rattle.std.proofs.Common.{◌≡◌, ◌⊎◌, inl, inr, refl, sym, ap, ◌∙◌, subst, append-nil, append_assoc, ℕ, zero, suc, ◌+◌, ◌/◌, ◌%◌, ◌<◌, ◌≤◌, ◌==◌, nat_lt, Bool, true, false, if◌then◌else◌, List, [], ◌∷◌, ◌++◌, length, codes, arith}
+use Rattle.std.proofs.Common.{◌≡◌, ◌⊎◌, inl, inr, refl, sym, ap, ◌∙◌, subst, append_assoc, ℕ, zero, suc, ◌+◌, ◌/◌, ◌%◌, ◌<◌, ◌≤◌, ◌==◌, nat_lt, Bool, true, false, if◌then◌else◌, List, [], ◌∷◌, ◌++◌, codes, arith}
 use Rattle.std.specs.Prelude.{nat_le}
 use Rattle.std.specs.Fmt.{decimal, digit_glyph, digits, digits_onto, signed_decimal}
 use Rattle.std.specs.List.{AllByRecursion}
 use Rattle.std.proofs.lemmas.Bool.{leb-true}
-use Rattle.wrp_base.specs.declared.fault.TraceFault.{TraceFault}
-use Rattle.wrp_base.specs.declared.fault.TraceFault.TheVariants.{Fields, Kind, Number, Name, Memory}
 use Rattle.wrp_config.specs.Accepted.{IsSoundDatabase}
 use Rattle.wrp_config.specs.Same.{ReadingIsAccepted}
-use Rattle.wrp_course.specs.declared.breach.Breach.{Breach}
 use Rattle.wrp_course.specs.Setting.{Setting}
 use Rattle.wrp_records.specs.declared.status.Status.{Status}
-use Rattle.wrp_records.specs.declared.status.Status.TheVariants.{Done, Usage, BadNetwork, BadTrace, Broken, ReadFault, WriteFault, TooLarge, OutOfMemory}
-use Rattle.wrp_records.specs.Lines.{IsWhole, lines_of}
-use Rattle.wrp_records.specs.Refusals.{bad_network_line, bad_trace_line, code_name, code_of, field_of, name_of, too_large_line}
-use Rattle.wrp_records.specs.Stream.{large_line}
+use Rattle.wrp_records.specs.declared.status.Status.TheVariants.{Usage, WriteFault}
+use Rattle.wrp_records.specs.Lines.{lines_of}
+use Rattle.wrp_records.specs.Refusals.{code_name, code_of, field_of, name_of}
 use Rattle.wrp_records.specs.Words.{line_of, IsWord}
-use Rattle.wrp_records.proofs.Feeds.{lines_of-whole}
 use Rattle.wrp_network_world.specs.NetworkSetting.{IsSettingOf}
 use Rattle.wrp_commands.specs.Request.{CommandLine}
 use Rattle.wrp_asked.specs.EmitHeadline.{EmissionsTellNoTrack, HasPlainUsage, InputsOf, LacksNode, TellsNoTrack}
-use Rattle.wrp_asked.specs.Headline.{EndsEvents, ReachesNone}
+use Rattle.wrp_asked.specs.Headline.{ReachesNone}
 use Rattle.wrp_asked.specs.Input.{network_text}
-use Rattle.wrp_audit.specs.Broken.{broken_line, premise_name}
-use Rattle.wrp_replay.specs.Replays.{IsRefusedBy}
-use Rattle.wrp_records.proofs.WordLemmas.{decimal_word, either_word, first_word, head_of, line_whole, signed_word}
+use Rattle.wrp_audit.specs.Broken.{premise_name}
+use Rattle.wrp_records.proofs.WordLemmas.{decimal_word, first_word, head_of}
 use Rattle.wrp_asked.proofs.InputLines.{pass_events}
-use Rattle.wrp_asked.proofs.PlaceWords.{place_word}
 use Rattle.wrp_asked.proofs.TakenLines.{HoldsInFront, taken_lines}
+use Rattle.wrp_asked.proofs.LastLines.{HasLastLines, last_tells, none_tells, told_as}
+use Rattle.wrp_data.specs.Reason.{number_of}
+use Rattle.wrp_lines.specs.Words.{reason_word, servo_word}
 
 -- Texts that do not begin as `track` does
 
@@ -93,74 +89,7 @@ fourth a b c d more h k low =
     let space : 32 ≤ 115 = omega arith in
     third_low a b (c ++ 32 ∷ line_of (d ∷ more)) h k (before_low c (32 ∷ line_of (d ∷ more)) low space)
 
-one_line : (line : List ℕ) → IsWhole line → TellsNoTrack line → AllByRecursion TellsNoTrack (lines_of line)
-one_line line whole told =
-    subst (λ (l : List ℕ). AllByRecursion TellsNoTrack (lines_of l)) (append-nil line)
-    (subst (λ (l : List ℕ). AllByRecursion TellsNoTrack (lines_of (l ++ []))) (sym whole.is)
-    (subst (AllByRecursion TellsNoTrack) (sym (lines_of-whole whole.front [] whole.plain)) (subst TellsNoTrack whole.is told, tt)))
-
-pub no_line : (last : List ℕ) → last ≡ [] → AllByRecursion TellsNoTrack (lines_of last)
-no_line last e = subst (λ (l : List ℕ). AllByRecursion TellsNoTrack (lines_of l)) (sym e) tt
-
-pub told_as : (last line : List ℕ) → last ≡ line → AllByRecursion TellsNoTrack (lines_of line) → AllByRecursion TellsNoTrack (lines_of last)
-told_as last line is told = subst (λ (l : List ℕ). AllByRecursion TellsNoTrack (lines_of l)) (sym is) told
-
--- Lines that name what is refused
-
-too_large : AllByRecursion TellsNoTrack (lines_of too_large_line)
-too_large = (two_words (codes "too-large") (codes "0") refl refl, tt)
-
-pub large : (n : ℕ) → AllByRecursion TellsNoTrack (lines_of (large_line n))
-large n =
-    one_line (line_of (codes "too-large" ∷ decimal n ∷ [])) (line_whole (codes "too-large" ∷ decimal n ∷ []) (refl, (decimal_word n, tt)))
-    (two_words (codes "too-large") (decimal n) refl (decimal_word n))
-
-premise_word : (p : ℕ) → IsWord (premise_name p)
-unfolding premise_name
-premise_word p =
-    either_word (p == 1) (codes "TickEarly") _ refl (either_word (p == 2) (codes "TickLate") _ refl
-    (either_word (p == 3) (codes "Rate") _ refl (either_word (p == 4) (codes "FibreRate") _ refl
-    (either_word (p == 5) (codes "Fibre") _ refl (either_word (p == 6) (codes "Module") _ refl
-    (either_word (p == 7) (codes "TxStamp") _ refl (either_word (p == 8) (codes "RxRaw") _ refl
-    (either_word (p == 9) (codes "Beat") _ refl (either_word (p == 10) (codes "TooOld") _ refl
-    (either_word (p == 11) (codes "NotSent") _ refl (either_word (p == 12) (codes "Forged") _ refl
-    (either_word (p == 13) (codes "NotUp") [] refl refl))))))))))))
-
-fault_word : (fault : TraceFault) → IsWord (name_of fault)
-fault_word Fields = refl
-fault_word Kind = refl
-fault_word (Number field) = refl
-fault_word (Name field) = refl
-fault_word (Memory e) = refl
-
-pub bad_trace : (n : ℕ) (fault : TraceFault) → AllByRecursion TellsNoTrack (lines_of (bad_trace_line n fault))
-bad_trace n fault =
-    one_line (bad_trace_line n fault)
-    (line_whole (codes "bad-trace" ∷ decimal n ∷ decimal (code_of fault) ∷ name_of fault ∷ decimal (field_of fault) ∷ [])
-    (refl, (decimal_word n, (decimal_word (code_of fault), (fault_word fault, (decimal_word (field_of fault), tt))))))
-    (fourth (codes "bad-trace") (decimal n) (decimal (code_of fault)) (name_of fault) (decimal (field_of fault) ∷ []) refl (decimal_word n) (decimal_low (code_of fault)))
-
-broken : (n : ℕ) (breach : Breach) → AllByRecursion TellsNoTrack (lines_of (broken_line n breach))
-broken n breach =
-    one_line (broken_line n breach)
-    (line_whole (codes "broken" ∷ decimal n ∷ decimal breach.premise ∷ premise_name breach.premise ∷ signed_decimal breach.shown ∷ signed_decimal breach.bound ∷ []) (
-      refl,
-      (
-        decimal_word n,
-        (decimal_word breach.premise, (premise_word breach.premise, (signed_word breach.shown, (signed_word breach.bound, tt)))),
-      ),
-    ))
-    (fourth (codes "broken") (decimal n) (decimal breach.premise) (premise_name breach.premise) (signed_decimal breach.shown ∷ signed_decimal breach.bound ∷ []) refl (decimal_word n)
-    (decimal_low breach.premise))
-
-code_word : (code : ℕ) → IsWord (code_name code)
-unfolding code_name
-code_word code =
-    either_word (code == 1) (codes "Syntax") _ refl (either_word (code == 2) (codes "UnknownKey") _ refl
-    (either_word (code == 3) (codes "Missing") _ refl (either_word (code == 4) (codes "Range") _ refl
-    (either_word (code == 5) (codes "Twice") _ refl (either_word (code == 7) (codes "NotATree") _ refl
-    (either_word (code == 8) (codes "TwoSlaves") _ refl (either_word (code == 9) (codes "TooDeep") _ refl
-    (either_word (code == 10) (codes "Clash") [] refl refl))))))))
+-- Lines that end an output
 
 code_low : (code : ℕ) → IsLow (code_name code)
 unfolding code_name
@@ -172,28 +101,25 @@ code_low code =
     (either_low (code == 8) (codes "TwoSlaves") _ (low_by (codes "TwoSlaves") refl) (either_low (code == 9) (codes "TooDeep") _ (low_by (codes "TooDeep") refl)
     (either_low (code == 10) (codes "Clash") [] (low_by (codes "Clash") refl) none))))))))
 
-bad_network : (code : ℕ) (place : List ℕ) → IsWord place → AllByRecursion TellsNoTrack (lines_of (bad_network_line code place))
-bad_network code place h =
-    one_line (bad_network_line code place)
-    (line_whole (codes "bad-network" ∷ decimal code ∷ code_name code ∷ place ∷ []) (refl, (decimal_word code, (code_word code, (h, tt)))))
-    (fourth (codes "bad-network") (decimal code) (code_name code) place [] refl (decimal_word code) (code_low code))
-
-refused : (text line : List ℕ) → IsRefusedBy text line → AllByRecursion TellsNoTrack (lines_of line)
-refused text line (code, place, reads, is) =
-    told_as line (bad_network_line code place.bytes) is (bad_network code place.bytes (place_word text code place reads))
+pub no_track_last : HasLastLines TellsNoTrack
+no_track_last = record {
+  large = λ n. two_words (codes "too-large") (decimal n) refl (decimal_word n);
+  text = two_words (codes "too-large") (codes "0") refl refl;
+  trace = λ n fault.
+      fourth (codes "bad-trace") (decimal n) (decimal (code_of fault)) (name_of fault) (decimal (field_of fault) ∷ []) refl (decimal_word n)
+      (decimal_low (code_of fault));
+  broken = λ n breach.
+      fourth (codes "broken") (decimal n) (decimal breach.premise) (premise_name breach.premise)
+      (signed_decimal breach.shown ∷ signed_decimal breach.bound ∷ []) refl (decimal_word n) (decimal_low breach.premise);
+  network = λ code place h. fourth (codes "bad-network") (decimal code) (code_name code) place [] refl (decimal_word code) (code_low code);
+  forged = λ count. two_words (codes "forged") (decimal count) refl (decimal_word count);
+  count = λ name port reason value h.
+      fourth name (codes "count") (decimal port) (reason_word (number_of reason)) (decimal value ∷ []) h refl (decimal_low port);
+  sum = λ name ticks tracks worst bound state h.
+      fourth name (codes "sum") (decimal ticks) (decimal tracks) (decimal worst ∷ signed_decimal bound ∷ servo_word state ∷ []) h refl (decimal_low ticks);
+}
 
 -- What is due
-
--- behind the counters that are due, where they have such lines alone
-pub last_tells : (status : Status) (s : Setting) (front behind : List (List ℕ)) (counts last : List ℕ) → AllByRecursion TellsNoTrack (lines_of counts)
-    → EndsEvents status s front behind counts last → AllByRecursion TellsNoTrack (lines_of last)
-last_tells Done s front behind counts last none ends = told_as last counts ends.1 none
-last_tells BadTrace s front behind counts last none ends = told_as last _ ends.3.2 (bad_trace _ ends.3.0)
-last_tells Broken s front behind counts last none ends = told_as last _ ends.3.is (broken _ ends.3.breach)
-last_tells TooLarge s front behind counts last none ends = told_as last (large_line (length front + 1)) ends.3.1 (large (length front + 1))
-last_tells ReadFault s front behind counts last none ends = no_line last ends
-last_tells OutOfMemory s front behind counts last none ends = no_line last ends
-last_tells status s front behind counts last none ends = absurd ends
 
 sound_in : ReadingIsAccepted → (text : List ℕ) (s : Setting) → IsSettingOf text s → IsSoundDatabase s.db
 sound_in accepted text s setting = subst (λ (t : Setting). IsSoundDatabase t.db) (sym setting.is) (accepted text setting.net setting.reads).database
@@ -202,20 +128,13 @@ inputs_tell : ReadingIsAccepted → (asked : CommandLine) (input : List ℕ) (st
     → AllByRecursion TellsNoTrack (lines_of octets)
 inputs_tell accepted asked input status octets inputs =
     let sound = sound_in accepted (network_text input) inputs.setting inputs.asks.2.0 in
-    let last = last_tells status inputs.setting inputs.came.front inputs.came.behind [] inputs.last tt inputs.ends in
-    told_as octets _ inputs.is (pass_events TellsNoTrack one_word inputs.setting inputs.node inputs.events sound inputs.last last)
+    let last = last_tells TellsNoTrack no_track_last status inputs.setting inputs.came.front inputs.came.behind [] inputs.last tt inputs.ends in
+    told_as TellsNoTrack octets _ inputs.is (pass_events TellsNoTrack one_word inputs.setting inputs.node inputs.events sound inputs.last last)
 
 lacks_tells : (asked : CommandLine) (input : List ℕ) (status : Status) (octets : List ℕ) → HasPlainUsage asked → LacksNode asked input status octets
     → AllByRecursion TellsNoTrack (lines_of octets)
-lacks_tells asked input Usage octets plain lacks = told_as octets asked.usage lacks.1 plain
+lacks_tells asked input Usage octets plain lacks = told_as TellsNoTrack octets asked.usage lacks.1 plain
 lacks_tells asked input status octets plain lacks = absurd lacks
-
-pub none_tells : (input : List ℕ) (status : Status) (octets : List ℕ) → ReachesNone input status octets → AllByRecursion TellsNoTrack (lines_of octets)
-none_tells input BadNetwork octets none = refused (network_text input) octets none.1
-none_tells input TooLarge octets none = told_as octets too_large_line none.1 too_large
-none_tells input ReadFault octets none = no_line octets none
-none_tells input OutOfMemory octets none = no_line octets none
-none_tells input status octets none = absurd none
 
 abbrev IsInputDue : CommandLine → List ℕ → Status → List ℕ → Type 0
 IsInputDue asked input status due = LacksNode asked input status due ⊎ (ReachesNone input status due ⊎ InputsOf asked input status due)
@@ -223,7 +142,7 @@ IsInputDue asked input status due = LacksNode asked input status due ⊎ (Reache
 due_tells : ReadingIsAccepted → (asked : CommandLine) (input : List ℕ) (status : Status) (octets : List ℕ) → HasPlainUsage asked
     → IsInputDue asked input status octets → AllByRecursion TellsNoTrack (lines_of octets)
 due_tells accepted asked input status octets plain (inl lacks) = lacks_tells asked input status octets plain lacks
-due_tells accepted asked input status octets plain (inr (inl none)) = none_tells input status octets none
+due_tells accepted asked input status octets plain (inr (inl none)) = none_tells TellsNoTrack no_track_last input status octets none
 due_tells accepted asked input status octets plain (inr (inr inputs)) = inputs_tell accepted asked input status octets inputs
 
 -- a line that is cut begins as the whole one
@@ -239,5 +158,5 @@ in_front line more told node tick rest p q e =
 
 pub emissions_tell_no_track : ReadingIsAccepted → EmissionsTellNoTrack
 emissions_tell_no_track accepted asked input WriteFault octets plain (status, due, count, is, so) =
-    told_as octets _ is (taken_lines TellsNoTrack in_front due count (due_tells accepted asked input status due plain so))
+    told_as TellsNoTrack octets _ is (taken_lines TellsNoTrack in_front due count (due_tells accepted asked input status due plain so))
 emissions_tell_no_track accepted asked input status octets plain prints = due_tells accepted asked input status octets plain prints

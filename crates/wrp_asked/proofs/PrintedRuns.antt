@@ -25,7 +25,8 @@ use Rattle.wrp_asked.proofs.Asking.{networked_of}
 use Rattle.wrp_asked.proofs.EmitTold.{IsEmittedSo, emission_told}
 use Rattle.wrp_asked.proofs.HeadlineTold.{IsTold, headline_told}
 use Rattle.wrp_asked.proofs.LoopTold.{IsLoopedSo, looped_told}
-use Rattle.wrp_asked.proofs.NoTrack.{in_front, no_line, told_as}
+use Rattle.wrp_asked.proofs.LastLines.{no_line, told_as}
+use Rattle.wrp_asked.proofs.NoTrack.{in_front}
 use Rattle.wrp_asked.proofs.PrintedTracks.{audit_within, inputs_within, looped_within, simulation_within, untold_within}
 use Rattle.wrp_asked.proofs.SimTold.{IsMadeSo, simulation_told}
 use Rattle.wrp_asked.proofs.TakenLines.{taken_lines}
@@ -46,13 +47,13 @@ records_due asked input calls status octets (inr (inr looped)) =
 
 answer_due : (asked : CommandLine) (input : List ℕ) (calls : List LinkCall) (status : Status) (octets : List ℕ) → HasPlainUsage asked
     → Answer asked input calls status octets → IsUntold asked octets
-answer_due asked input calls Usage octets plain h = inr (told_as octets asked.usage h.1 plain)
+answer_due asked input calls Usage octets plain h = inr (told_as TellsNoTrack octets asked.usage h.1 plain)
 answer_due asked input calls BadNetwork octets plain h = elim h [ inl bad ↦ inl (networked_command asked bad.0) | inr alone ↦ inl (alone_command asked alone.0 alone.1) ]
 answer_due asked input calls TooLarge octets plain h = elim h [ inl long ↦ inl (networked_command asked long.0) | inr due ↦ inl (records_due asked input calls TooLarge octets due) ]
 answer_due asked input calls status octets plain h = inl (records_due asked input calls status octets h)
 
 first_due : (asked : CommandLine) (input : List ℕ) (calls : List LinkCall) (octets : List ℕ) → FirstAnswer asked input calls octets → IsUntold asked octets
-first_due asked input calls octets (inl none) = inr (no_line octets none.0)
+first_due asked input calls octets (inl none) = inr (no_line TellsNoTrack octets none.0)
 first_due asked input calls octets (inr (inl task)) = inl (networked_command asked (networked_of asked (network_text input) task.0 task.1))
 first_due asked input calls octets (inr (inr (inl alone))) = inl (alone_command asked alone.0 alone.1)
 first_due asked input calls octets (inr (inr (inr looped))) =
@@ -61,7 +62,7 @@ first_due asked input calls octets (inr (inr (inr looped))) =
 -- of the first octets of a text
 taken_due : (asked : CommandLine) (due octets : List ℕ) (count : ℕ) → octets ≡ take count due → IsUntold asked due → IsUntold asked octets
 taken_due asked due octets count is (inl command) = inl command
-taken_due asked due octets count is (inr told) = inr (told_as octets (take count due) is (taken_lines TellsNoTrack in_front due count told))
+taken_due asked due octets count is (inr told) = inr (told_as TellsNoTrack octets (take count due) is (taken_lines TellsNoTrack in_front due count told))
 
 part_due : (asked : CommandLine) (input : List ℕ) (calls : List LinkCall) (octets : List ℕ) → HasPlainUsage asked → PartAnswer asked input calls octets
     → IsUntold asked octets

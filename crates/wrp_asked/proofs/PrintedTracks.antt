@@ -36,14 +36,14 @@ use Rattle.wrp_records.proofs.WordLemmas.{line_in_front, line_whole, word_plain}
 use Rattle.wrp_asked.proofs.EventWords.{event_word}
 use Rattle.wrp_asked.proofs.HeadlineParts.{network_of, setting_asked, writes}
 use Rattle.wrp_asked.proofs.InputLines.{Passes, pass_both}
-use Rattle.wrp_asked.proofs.NoTrack.{last_tells, longer, none_tells, two_words}
+use Rattle.wrp_asked.proofs.NoTrack.{longer, no_track_last, two_words}
 use Rattle.wrp_asked.proofs.TakenLines.{HoldsInFront, taken_lines}
 use Rattle.wrp_asked.proofs.TrackTold.{line_true}
 use Rattle.wrp_loop.specs.Loops.{plan_of}
 use Rattle.wrp_simulate.specs.SimText.{is_printed, sim_lines}
 use Rattle.wrp_truth.specs.Bounds.{IsTrueOutput, IsTrueStep}
 use Rattle.wrp_trace.specs.EventPrinting.{event_text}
-use Rattle.wrp_asked.proofs.LastLines.{after_tells, all_told, loop_tells, link_tells, names_tells}
+use Rattle.wrp_asked.proofs.LastLines.{after_tells, all_told, last_tells, link_tells, loop_tells, names_tells, none_tells}
 
 -- One line
 
@@ -173,7 +173,7 @@ prints_within IsDue f WriteFault octets (status, due, count, is, so) =
 prints_within IsDue f status octets prints = all_itself octets (f status octets prints)
 
 none_within : (input : List ℕ) (status : Status) (octets : List ℕ) → ReachesNone input status octets → AllByRecursion BeginsWithin (lines_of octets)
-none_within input status octets none = untold octets (none_tells input status octets none)
+none_within input status octets none = untold octets (none_tells TellsNoTrack no_track_last input status octets none)
 
 -- of an audit
 
@@ -187,7 +187,8 @@ steps_within accepted asked input carries status octets steps =
     let w : WorldAt = world_after s steps.events in
     let net : IsNetwork s = network_of accepted (network_text input) s (setting_asked asked (network_text input) s steps.came.asks) in
     let last : AllByRecursion TellsNoTrack (lines_of steps.last) =
-    last_tells status s steps.came.front steps.came.behind (all_counts s w) steps.last (all_told s net w) steps.ends in
+    last_tells TellsNoTrack no_track_last status s steps.came.front steps.came.behind (all_counts s w) steps.last
+    (all_told TellsNoTrack no_track_last s net w) steps.ends in
     pass_end (audit_lines s steps.events) steps.last octets steps.is
     (audit_pass event_lines s steps.events net.accepted.names (carries s steps.events steps.came).tracks) (untold steps.last last)
 
@@ -214,7 +215,7 @@ run_within accepted asked input carries status octets run =
     let net : IsNetwork s = network_of accepted (network_text input) s run.made.asks.2 in
     pass_end (sim_lines s run.events) run.last octets run.is
     (run_pass run_lines s run.events net.accepted.names (carries s run.events run.made).parts.tracks)
-    (untold run.last (after_tells status s run.made.scene run.events run.made.at run.last net run.ends))
+    (untold run.last (after_tells TellsNoTrack no_track_last status s run.made.scene run.events run.made.at run.last net run.ends))
 
 pub simulation_within : ReadingIsAccepted → (asked : CommandLine) (input : List ℕ) (status : Status) (octets : List ℕ) → SimHeadline asked input status octets
     → TracksAreWithinBounds octets
@@ -223,7 +224,7 @@ simulation_within accepted asked input status octets head =
     (λ due text so. elim so [
       | inl none ↦ none_within input due text none
       | inr some ↦ elim some [
-        | inl lacks ↦ untold text (names_tells due lacks.setting lacks.front lacks.line text lacks.is)
+        | inl lacks ↦ untold text (names_tells TellsNoTrack no_track_last due lacks.setting lacks.front lacks.line text lacks.is)
         | inr run ↦ run_within accepted asked input head.carries due text run
       ]
     ])
@@ -242,7 +243,7 @@ loop_within asked input calls carries status octets loop =
     let carried : CarriesRun event_lines s events = carries s loop.last loop.came in
     pass_end (came_lines s events) loop.behind octets loop.is
     (came_pass event_lines s events carried.run.network.accepted.names carried.run.each carried.parts.tracks)
-    (untold loop.behind (loop_tells status (plan_of s loop.came.scene loop.came.seed) calls loop.came.later loop.last loop.behind carried.run.network loop.ends))
+    (untold loop.behind (loop_tells TellsNoTrack no_track_last status (plan_of s loop.came.scene loop.came.seed) calls loop.came.later loop.last loop.behind carried.run.network loop.ends))
 
 pub looped_within : (asked : CommandLine) (input : List ℕ) (calls : List LinkCall) (status : Status) (octets : List ℕ)
     → LoopHeadline asked input calls status octets → TracksAreWithinBounds octets
@@ -251,9 +252,9 @@ looped_within asked input calls status octets head =
     (λ due text so. elim so [
       | inl none ↦ none_within input due text none.0
       | inr some ↦ elim some [
-        | inl scene ↦ untold text (names_tells due scene.setting scene.front scene.line text scene.is)
+        | inl scene ↦ untold text (names_tells TellsNoTrack no_track_last due scene.setting scene.front scene.line text scene.is)
         | inr more ↦ elim more [
-          | inl link ↦ untold text (link_tells asked input calls due text link)
+          | inl link ↦ untold text (link_tells TellsNoTrack asked input calls due text link)
           | inr loop ↦ loop_within asked input calls head.carries due text loop
         ]
       ]

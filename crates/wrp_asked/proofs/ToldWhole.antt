@@ -92,7 +92,7 @@ audit_whole s net (h ∷ before) = all_append IsWhole (audit_lines s before) (st
 
 -- Counters
 
-reason_is : (reason : Reason) → IsWord (reason_word (number_of reason))
+pub reason_is : (reason : Reason) → IsWord (reason_word (number_of reason))
 unfolding reason_word
 reason_is Short = refl
 reason_is Version = refl

@@ -55,12 +55,12 @@ use Rattle.wrp_asked.specs.Tasks.{IsAuditing, IsLooping}
 use Rattle.wrp_asked.proofs.HeadlineParts.{network_of, run_of, setting_asked}
 use Rattle.wrp_asked.proofs.HeadlineTold.{IsTold, headline_told}
 use Rattle.wrp_asked.proofs.LoopTold.{IsLoopedSo, looped_told}
-use Rattle.wrp_asked.proofs.NoTrack.{in_front, last_tells, none_tells}
+use Rattle.wrp_asked.proofs.NoTrack.{in_front, no_track_last}
 use Rattle.wrp_asked.proofs.TakenLines.{taken_lines}
 use Rattle.wrp_asked.proofs.ToldApart.{came_text, count_lines, flat_all, steps_text}
 use Rattle.wrp_asked.proofs.ToldWhole.{all_whole, audit_whole}
 use Rattle.wrp_run.specs.Shown.{AreTold, AuditFollows, ComeFrom, LoopFollows, Shows, ShowsNone, in_order, marked}
-use Rattle.wrp_asked.proofs.LastLines.{all_told, loop_tells, link_tells, names_tells}
+use Rattle.wrp_asked.proofs.LastLines.{all_told, last_tells, link_tells, loop_tells, names_tells, none_tells}
 
 -- Lines of steps
 
@@ -189,13 +189,15 @@ audit_shows accepted can follow asked input status due octets steps front =
           ap lines_of (front.is ∙ text)
           ∙ lines_behind (looped.audit_lines s steps.events) steps.last (audit_whole s net steps.events)
           ∙ ap (λ (l : List (List ℕ)). l ++ lines_of steps.last) (sym (steps_shown s (reverse lines) steps.events newest));
-      closing = last_tells status s came.front came.behind (all_counts s w) steps.last (all_told s net w) steps.ends;
+      closing =
+          last_tells TellsNoTrack no_track_last status s came.front came.behind (all_counts s w) steps.last
+          (all_told TellsNoTrack no_track_last s net w) steps.ends;
       follow = follow s steps.events seen (run_of can accepted asked input s steps.events came) (are_seen s (reverse lines) steps.events newest);
     }
 
 due_follows : ReadingIsAccepted → EventsCanCome → OffsetsFollow → (asked : CommandLine) (input : List ℕ) (status : Status) (octets : List ℕ)
     → ReachesNone input status octets ⊎ StepsOf asked input status octets → AuditFollows input octets
-due_follows accepted can follow asked input status octets (inl none) = inl (none_tells input status octets none)
+due_follows accepted can follow asked input status octets (inl none) = inl (none_tells TellsNoTrack no_track_last input status octets none)
 due_follows accepted can follow asked input status octets (inr steps) =
     inr (audit_shows accepted can follow asked input status octets octets steps (whole octets))
 
@@ -203,7 +205,8 @@ cut_follows : ReadingIsAccepted → EventsCanCome → OffsetsFollow → (asked :
     → octets ≡ take count due → ReachesNone input status due ⊎ StepsOf asked input status due →
     AuditFollows input octets
 cut_follows accepted can follow asked input status due octets count is (inl none) =
-    inl (subst (λ (l : List ℕ). ShowsNone l) (sym is) (taken_lines TellsNoTrack in_front due count (none_tells input status due none)))
+    inl
+    (subst (λ (l : List ℕ). ShowsNone l) (sym is) (taken_lines TellsNoTrack in_front due count (none_tells TellsNoTrack no_track_last input status due none)))
 cut_follows accepted can follow asked input status due octets count is (inr steps) =
     inr (audit_shows accepted can follow asked input status due octets steps (taken due octets count is))
 
@@ -277,16 +280,17 @@ loop_shows follow asked input calls status due octets loop carried front =
           ap lines_of (front.is ∙ text)
           ∙ lines_behind (loop_lines s events) loop.behind (loop_whole s net events carried.run.each carried.fit)
           ∙ ap (λ (l : List (List ℕ)). l ++ lines_of loop.behind) (sym (loop_shown s events));
-      closing = loop_tells status (plan_of s loop.came.scene loop.came.seed) calls loop.came.later loop.last loop.behind net loop.ends;
+      closing =
+          loop_tells TellsNoTrack no_track_last status (plan_of s loop.came.scene loop.came.seed) calls loop.came.later loop.last loop.behind net loop.ends;
       follow = follow s events (came_by s events) carried.run (are_came s events net.accepted.names carried.run.each carried.fit);
     }
 
 -- what is due shows no track line, or is that of events
 loop_due : (asked : CommandLine) (input : List ℕ) (calls : List LinkCall) (status : Status) (due : List ℕ) → IsLoopDue asked input calls status due
     → ShowsNone due ⊎ LoopOf asked input calls status due
-loop_due asked input calls status due (inl none) = inl (none_tells input status due none.0)
-loop_due asked input calls status due (inr (inl scene)) = inl (names_tells status scene.setting scene.front scene.line due scene.is)
-loop_due asked input calls status due (inr (inr (inl link))) = inl (link_tells asked input calls status due link)
+loop_due asked input calls status due (inl none) = inl (none_tells TellsNoTrack no_track_last input status due none.0)
+loop_due asked input calls status due (inr (inl scene)) = inl (names_tells TellsNoTrack no_track_last status scene.setting scene.front scene.line due scene.is)
+loop_due asked input calls status due (inr (inr (inl link))) = inl (link_tells TellsNoTrack asked input calls status due link)
 loop_due asked input calls status due (inr (inr (inr loop))) = inr loop
 
 abbrev LoopCarries : CommandLine → List ℕ → List LinkCall → Type 0

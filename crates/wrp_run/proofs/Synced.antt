@@ -1,81 +1,64 @@
 -- In what an audit, a simulation and a run over a link wrote, each step of a clock comes while the last printed state of its servo is
 -- SYNC_TAI or SYNC_NSEC: their lines are those of the run's outputs, and further lines that tell neither a step nor a state.
-use Rattle.std.proofs.Common.{◌≡◌, ◌⊎◌, inl, inr, ◌∙◌, refl, ap, ap₂, sym, subst, append-nil, append_assoc, ℕ, ◌+◌, ◌==◌, ◌&&◌, ◌||◌, not, pos, Bool, true, false, if◌then◌else◌, List, [], ◌∷◌, ◌++◌, map, flat_map, drop, length, Option, None, Some, IfSome, arith, codes}
+use Rattle.std.proofs.Common.{◌≡◌, ◌⊎◌, inl, inr, ◌∙◌, refl, ap, ap₂, sym, subst, append-nil, append_assoc, ℕ, ◌+◌, ◌==◌, Bool, true, false, if◌then◌else◌, List, [], ◌∷◌, ◌++◌, flat_map, drop, length, Option, None, Some, IfSome, arith, codes}
 use Rattle.std.specs.Fmt.{decimal, signed_decimal}
 use Rattle.std.specs.Io.KnownBytes.{Appends}
-use Rattle.std.specs.List.{AllByRecursion, concat, list_all}
-use Rattle.std.proofs.lemmas.Bool.{and_from, and_parts}
+use Rattle.std.specs.List.{AllByRecursion, concat}
 use Rattle.std.proofs.lemmas.List.{length-append, take-append-drop}
 use Rattle.std.proofs.lemmas.List.Folds.{concat-append}
-use Rattle.wrp_base.specs.declared.fault.TraceFault.{TraceFault}
-use Rattle.wrp_base.specs.declared.fault.TraceFault.TheVariants as faults
-use Rattle.wrp_base.specs.Network.{name_at}
-use Rattle.wrp_base.proofs.Lists.{all_append, all_weaker, heads, tails}
-use Rattle.wrp_bounds.specs.Bounds.{path_of}
+use Rattle.wrp_base.proofs.Lists.{all_append, heads, tails}
 use Rattle.wrp_caldb.specs.Name.{same_name}
 use Rattle.wrp_config.specs.Accepted.{HasNames}
 use Rattle.wrp_config.specs.Same.{ReadingIsAccepted}
-use Rattle.wrp_course.specs.declared.breach.Breach.{Breach}
 use Rattle.wrp_course.specs.Given.{NodeStepAt}
 use Rattle.wrp_course.specs.Run.{Happened, steps_at, world_after}
 use Rattle.wrp_course.specs.Runs.{AllEvents, IsNetwork, IsRun}
-use Rattle.wrp_course.specs.Setting.{Setting, node_setting_of, nodes_of}
+use Rattle.wrp_course.specs.Setting.{Setting}
 use Rattle.wrp_course.specs.WorldAt.{WorldAt}
-use Rattle.wrp_data.specs.Counters.{count_at}
-use Rattle.wrp_data.specs.declared.reason.Reason.{Reason}
-use Rattle.wrp_data.specs.declared.reason.Reason.TheVariants.{Short, Version, Kind, Length, Time, Tlv, BadWr, OneStep, Domain, Stranger, NotForUs, Quiet, Unmatched, Range, Sample}
-use Rattle.wrp_data.specs.Reason.{number_of, reasons}
+use Rattle.wrp_data.specs.Reason.{number_of}
 use Rattle.wrp_io.specs.declared.link.LinkCall.{LinkCall}
 use Rattle.wrp_lines.specs.Lines.{count_words, output_line, sum_words}
 use Rattle.wrp_lines.specs.Words.{reason_word, servo_word}
 use Rattle.wrp_loop.specs.Laws.{LoopIsAudited}
-use Rattle.wrp_loop.specs.LoopRun.{Going, Plan, events_at, place}
+use Rattle.wrp_loop.specs.LoopRun.{events_at, place}
 use Rattle.wrp_loop.specs.LoopText as looped
-use Rattle.wrp_loop.specs.LoopText.{forged_lines, loop_lines, marked_line, steps_lines}
+use Rattle.wrp_loop.specs.LoopText.{loop_lines, marked_line, steps_lines}
 use Rattle.wrp_loop.specs.Loops.{plan_of}
-use Rattle.wrp_node.specs.NodeAt.{state_of}
 use Rattle.wrp_records.specs.declared.status.Status.{Status}
-use Rattle.wrp_records.specs.declared.status.Status.TheVariants.{Done, BadNetwork, BadTrace, Broken, LinkFault, OutOfMemory, ReadFault, TooLarge, WriteFault}
+use Rattle.wrp_records.specs.declared.status.Status.TheVariants.{WriteFault}
 use Rattle.wrp_records.specs.Lines.{IsWhole, lines_of}
-use Rattle.wrp_records.specs.Refusals.{bad_trace_line, code_name, code_of, field_of, name_of, too_large_line}
-use Rattle.wrp_records.specs.Stream.{large_line}
-use Rattle.wrp_records.specs.Words.{line_of, IsWord, is_word_octet}
-use Rattle.wrp_records.proofs.Reaching.{lines_alone, lines_behind}
-use Rattle.wrp_replay.specs.NodeText.{port_numbers}
-use Rattle.wrp_replay.specs.Replays.{IsRefusedBy}
-use Rattle.wrp_scene.specs.EventLimit.{event_limit}
-use Rattle.wrp_simulate.specs.SimText.{count_of, is_printed, node_sum, printed_line, printed_lines, sim_lines, sum_lines, tracked, worst_of}
+use Rattle.wrp_records.specs.Refusals.{code_name, code_of, field_of, name_of}
+use Rattle.wrp_records.specs.Words.{line_of}
+use Rattle.wrp_records.proofs.Reaching.{lines_behind}
+use Rattle.wrp_simulate.specs.SimText.{is_printed, printed_line, printed_lines, sim_lines}
 use Rattle.wrp_trace.specs.EventPrinting.{event_text}
 use Rattle.wrp_trace.specs.Events.{EventsCanCome}
-use Rattle.wrp_trace.specs.LineSetting.{has_port, line_setting_in}
 use Rattle.wrp_audit.specs.AuditLaws.{OneAudit}
 use Rattle.wrp_audit.specs.AuditText.{event_lines}
 use Rattle.wrp_network_world.specs.Counts.{all_counts}
-use Rattle.wrp_audit.specs.Broken.{broken_line, premise_name}
+use Rattle.wrp_audit.specs.Broken.{premise_name}
 use Rattle.wrp_printed_laws.specs.Laws.{PrintsStates, StepsComeSynced, lines_at, lines_in, output_lines, step_lines}
 use Rattle.wrp_printed_laws.specs.Steps.{IsLastState, SaysState, StepsAreSynced}
-use Rattle.wrp_printed_laws.specs.Words.{Reads, is_gap}
+use Rattle.wrp_printed_laws.specs.Words.{Reads}
 use Rattle.wrp_printed_laws.proofs.Words.{reads as reads_as}
 use Rattle.wrp_commands.specs.Request.{CommandLine}
 use Rattle.wrp_asked.specs.Ends.{Ends, Run}
-use Rattle.wrp_asked.specs.Headline.{CarriesRun, EndsEvents, EventsCarryParts, Prints, ReachesNone, StepsOf}
-use Rattle.wrp_asked.specs.Input.{network_text}
-use Rattle.wrp_asked.specs.LoopHeadline.{IsLoopDue, LacksLink, LoopHeadline, LoopOf, LoopedEventsCarryParts, StandsBehind}
-use Rattle.wrp_asked.specs.SimHeadline.{LacksScenario, MadeEventsCarryParts, NamesLine, RunOf, SimHeadline, run_lines}
+use Rattle.wrp_asked.specs.Headline.{CarriesRun, EventsCarryParts, Prints, ReachesNone, StepsOf}
+use Rattle.wrp_asked.specs.LoopHeadline.{IsLoopDue, LoopHeadline, LoopOf, LoopedEventsCarryParts}
+use Rattle.wrp_asked.specs.SimHeadline.{LacksScenario, MadeEventsCarryParts, RunOf, SimHeadline, run_lines}
 use Rattle.wrp_asked.specs.Tasks.{IsAuditing, IsLooping, IsSimulation}
 use Rattle.wrp_asked.proofs.EventLines.{whole_line}
-use Rattle.wrp_lines.proofs.LineWords.{at_word, servo_are}
-use Rattle.wrp_records.proofs.WordLemmas.{AreWords, decimal_word, either_word, line_whole, signed_word}
+use Rattle.wrp_records.proofs.WordLemmas.{AreWords}
 use Rattle.wrp_asked.proofs.EventWords.{event_word}
 use Rattle.wrp_asked.proofs.HeadlineParts.{run_of}
 use Rattle.wrp_asked.proofs.HeadlineTold.{IsTold, headline_told}
 use Rattle.wrp_asked.proofs.LoopTold.{IsLoopedSo, looped_told}
-use Rattle.wrp_asked.proofs.PlaceWords.{place_word}
 use Rattle.wrp_asked.proofs.SimTold.{IsMadeSo, simulation_told}
-use Rattle.wrp_asked.proofs.ToldApart.{came_text, count_if, count_lines, counts_text, flat_all, node_lines, port_if, steps_text}
-use Rattle.wrp_asked.proofs.ToldWhole.{audit_whole, counts_whole, forged_whole}
+use Rattle.wrp_asked.proofs.ToldApart.{came_text, flat_all, steps_text}
+use Rattle.wrp_asked.proofs.ToldWhole.{audit_whole}
 use Rattle.wrp_run.specs.Synced.{RunsNetwork, StepsComeInSync}
 use Rattle.wrp_run.proofs.Shown.{loop_whole, same_lines}
+use Rattle.wrp_asked.proofs.LastLines.{HasLastLines, after_tells, all_told, broken_words, counter_words, forged_words, large_words, last_tells, link_tells, loop_tells, names_tells, network_words, none_tells, run_words, trace_words}
 
 -- Lines of words
 
@@ -98,64 +81,10 @@ counted word words are other a b c d reads =
 no_step : (line : List ℕ) → NotFour line → NoStep line
 no_step line other node tick cycles reads = other node tick (codes "step") cycles reads
 
-one_line : (words : List (List ℕ)) → AreWords words → NoStep (line_of words) → (last : List ℕ) → last ≡ line_of words → AllByRecursion NoStep (lines_of last)
-one_line words are none last is =
-    let line : List ℕ = line_of words in
-    let cut : lines_of last ≡ line ∷ [] = ap lines_of (is ∙ sym (append-nil line)) ∙ lines_alone (line ∷ []) (line_whole words are, tt) in
-    subst (AllByRecursion NoStep) (sym cut) (none, tt)
+few_words : (word : List ℕ) (words : List (List ℕ)) → AreWords (word ∷ words) → (length words == 3) ≡ false → NoStep (line_of (word ∷ words))
+few_words word words are other = no_step (line_of (word ∷ words)) (counted word words are other)
 
-few_words : (word : List ℕ) (words : List (List ℕ)) → AreWords (word ∷ words) → (length words == 3) ≡ false → (last : List ℕ) → last ≡ line_of (word ∷ words)
-    → AllByRecursion NoStep (lines_of last)
-few_words word words are other last is = one_line (word ∷ words) are (no_step (line_of (word ∷ words)) (counted word words are other)) last is
-
-nothing : (last : List ℕ) → last ≡ [] → AllByRecursion NoStep (lines_of last)
-nothing last is = subst (λ (l : List ℕ). AllByRecursion NoStep (lines_of l)) (sym is) tt
-
--- Lines that name what is refused
-
-large : (n : ℕ) (last : List ℕ) → last ≡ large_line n → AllByRecursion NoStep (lines_of last)
-large n last is = few_words (codes "too-large") (decimal n ∷ []) (refl, (decimal_word n, tt)) refl last is
-
-too_large : (last : List ℕ) → last ≡ too_large_line → AllByRecursion NoStep (lines_of last)
-too_large last is = few_words (codes "too-large") (codes "0" ∷ []) (refl, (refl, tt)) refl last is
-
-premise_word : (p : ℕ) → IsWord (premise_name p)
-unfolding premise_name
-premise_word p =
-    either_word (p == 1) (codes "TickEarly") _ refl (either_word (p == 2) (codes "TickLate") _ refl
-    (either_word (p == 3) (codes "Rate") _ refl (either_word (p == 4) (codes "FibreRate") _ refl
-    (either_word (p == 5) (codes "Fibre") _ refl (either_word (p == 6) (codes "Module") _ refl
-    (either_word (p == 7) (codes "TxStamp") _ refl (either_word (p == 8) (codes "RxRaw") _ refl
-    (either_word (p == 9) (codes "Beat") _ refl (either_word (p == 10) (codes "TooOld") _ refl
-    (either_word (p == 11) (codes "NotSent") _ refl (either_word (p == 12) (codes "Forged") _ refl
-    (either_word (p == 13) (codes "NotUp") [] refl refl))))))))))))
-
-fault_word : (fault : TraceFault) → IsWord (name_of fault)
-fault_word faults.Fields = refl
-fault_word faults.Kind = refl
-fault_word (faults.Number field) = refl
-fault_word (faults.Name field) = refl
-fault_word (faults.Memory e) = refl
-
-bad_trace : (n : ℕ) (fault : TraceFault) (last : List ℕ) → last ≡ bad_trace_line n fault → AllByRecursion NoStep (lines_of last)
-bad_trace n fault last is =
-    few_words (codes "bad-trace") (decimal n ∷ decimal (code_of fault) ∷ name_of fault ∷ decimal (field_of fault) ∷ [])
-    (refl, (decimal_word n, (decimal_word (code_of fault), (fault_word fault, (decimal_word (field_of fault), tt))))) refl last is
-
-broken : (n : ℕ) (breach : Breach) (last : List ℕ) → last ≡ broken_line n breach → AllByRecursion NoStep (lines_of last)
-broken n breach last is =
-    few_words (codes "broken")
-    (decimal n ∷ decimal breach.premise ∷ premise_name breach.premise ∷ signed_decimal breach.shown ∷ signed_decimal breach.bound ∷ [])
-    (refl, (decimal_word n, (decimal_word breach.premise, (premise_word breach.premise, (signed_word breach.shown, (signed_word breach.bound, tt)))))) refl last is
-
-code_word : (code : ℕ) → IsWord (code_name code)
-unfolding code_name
-code_word code =
-    either_word (code == 1) (codes "Syntax") _ refl (either_word (code == 2) (codes "UnknownKey") _ refl
-    (either_word (code == 3) (codes "Missing") _ refl (either_word (code == 4) (codes "Range") _ refl
-    (either_word (code == 5) (codes "Twice") _ refl (either_word (code == 7) (codes "NotATree") _ refl
-    (either_word (code == 8) (codes "TwoSlaves") _ refl (either_word (code == 9) (codes "TooDeep") _ refl
-    (either_word (code == 10) (codes "Clash") [] refl refl))))))))
+-- Lines that end an output
 
 -- no code of a refusal is named `step`
 abbrev IsOther : List ℕ → Type 0
@@ -184,141 +113,24 @@ third_other a b c d are other node tick cycles reads =
     let no : true ≡ false = ap (λ (k : List ℕ). same_name k (codes "step")) (sym same) ∙ other in
     cc
 
-refused : (text last : List ℕ) → IsRefusedBy text last → AllByRecursion NoStep (lines_of last)
-refused text last (code, place, reads, is) =
-    let are : AreWords (codes "bad-network" ∷ decimal code ∷ code_name code ∷ place.bytes ∷ []) =
-    (refl, (decimal_word code, (code_word code, (place_word text code place reads, tt)))) in
-    one_line (codes "bad-network" ∷ decimal code ∷ code_name code ∷ place.bytes ∷ []) are
-    (third_other (codes "bad-network") (decimal code) (code_name code) place.bytes are (code_other code)) last is
-
-none_tells : (input : List ℕ) (status : Status) (octets : List ℕ) → ReachesNone input status octets → AllByRecursion NoStep (lines_of octets)
-none_tells input BadNetwork octets none = refused (network_text input) octets none.1
-none_tells input TooLarge octets none = too_large octets none.1
-none_tells input ReadFault octets none = nothing octets none
-none_tells input OutOfMemory octets none = nothing octets none
-none_tells input status octets none = absurd none
-
-names_tells : (status : Status) (s : Setting) (front : List (List ℕ)) (line octets : List ℕ) → NamesLine status s front line octets
-    → AllByRecursion NoStep (lines_of octets)
-names_tells BadTrace s front line octets is = bad_trace _ is.2 octets is.4
-names_tells TooLarge s front line octets is = large (length front + 1) octets is.1
-names_tells status s front line octets is = absurd is
-
-last_tells : (status : Status) (s : Setting) (front behind : List (List ℕ)) (counts last : List ℕ) → AllByRecursion NoStep (lines_of counts)
-    → EndsEvents status s front behind counts last → AllByRecursion NoStep (lines_of last)
-last_tells Done s front behind counts last none ends = subst (λ (l : List ℕ). AllByRecursion NoStep (lines_of l)) (sym ends.1) none
-last_tells BadTrace s front behind counts last none ends = bad_trace _ ends.3.0 last ends.3.2
-last_tells Broken s front behind counts last none ends = broken _ ends.3.breach last ends.3.is
-last_tells TooLarge s front behind counts last none ends = large (length front + 1) last ends.3.1
-last_tells ReadFault s front behind counts last none ends = nothing last ends
-last_tells OutOfMemory s front behind counts last none ends = nothing last ends
-last_tells status s front behind counts last none ends = absurd ends
-
--- Counters and sums
-
-reason_is : (reason : Reason) → IsWord (reason_word (number_of reason))
-unfolding reason_word
-reason_is Short = refl
-reason_is Version = refl
-reason_is Kind = refl
-reason_is Length = refl
-reason_is Time = refl
-reason_is Tlv = refl
-reason_is BadWr = refl
-reason_is OneStep = refl
-reason_is Domain = refl
-reason_is Stranger = refl
-reason_is NotForUs = refl
-reason_is Quiet = refl
-reason_is Unmatched = refl
-reason_is Range = refl
-reason_is Sample = refl
-
-count_tells : (s : Setting) → IsNetwork s → (n port : ℕ) (reason : Reason) (none : Bool) (value : ℕ)
-    → AllByRecursion NoStep (count_if (name_at s.cfg n) port reason none value)
-count_tells s net n port reason true value = tt
-count_tells s net n port reason false value =
-    let words : List (List ℕ) = count_words port (reason_word (number_of reason)) value in (
-      no_step (line_of (name_at s.cfg n ∷ words))
-          (counted (name_at s.cfg n) words (at_word s.cfg net.accepted.names n, (refl, (decimal_word port, (reason_is reason, (decimal_word value, tt))))) refl),
-      tt,
-    )
-
-port_tells : (s : Setting) → IsNetwork s → (n : ℕ) (has : Bool) (port : ℕ) (counters : List ℕ)
-    → AllByRecursion NoStep (port_if (name_at s.cfg n) has port counters)
-port_tells s net n true port counters =
-    flat_all NoStep (λ reason. count_if (name_at s.cfg n) port reason (count_at counters (number_of reason) == 0) (count_at counters (number_of reason)))
-    (λ reason. count_tells s net n port reason (count_at counters (number_of reason) == 0) (count_at counters (number_of reason))) reasons
-port_tells s net n false port counters = tt
-
-counts_tell : (s : Setting) → IsNetwork s → (w : WorldAt) → AllByRecursion NoStep (count_lines s w)
-counts_tell s net w =
-    flat_all NoStep (node_lines s w)
-    (λ n. flat_all NoStep (λ port. port_if (name_at s.cfg n) (has_port (line_setting_in s n) port) port ((w.node n).counters port))
-    (λ port. port_tells s net n (has_port (line_setting_in s n) port) port ((w.node n).counters port)) port_numbers) (nodes_of s)
-
-all_tell : (s : Setting) → IsNetwork s → (w : WorldAt) → AllByRecursion NoStep (lines_of (all_counts s w))
-all_tell s net w =
-    subst (AllByRecursion NoStep) (sym (ap lines_of (sym (counts_text s w)) ∙ lines_alone (count_lines s w) (counts_whole s net w))) (counts_tell s net w)
-
-forged_tells : (count : ℕ) (none : Bool) → AllByRecursion NoStep (if none then [] else line_of (codes "forged" ∷ decimal count ∷ []) ∷ [])
-forged_tells count true = tt
-forged_tells count false =
-    (no_step (line_of (codes "forged" ∷ decimal count ∷ [])) (counted (codes "forged") (decimal count ∷ []) (refl, (decimal_word count, tt)) refl), tt)
-
-closing_tells : (s : Setting) → IsNetwork s → (w : WorldAt) (forged : ℕ) → AllByRecursion NoStep (lines_of (all_counts s w ++ concat (forged_lines forged)))
-closing_tells s net w forged =
-    let cut : lines_of (all_counts s w ++ concat (forged_lines forged)) ≡ count_lines s w ++ forged_lines forged =
-    ap (λ (l : List ℕ). lines_of (l ++ concat (forged_lines forged))) (sym (counts_text s w))
-    ∙ lines_behind (count_lines s w) (concat (forged_lines forged)) (counts_whole s net w)
-    ∙ ap (λ (l : List (List ℕ)). count_lines s w ++ l) (lines_alone (forged_lines forged) (forged_whole forged (forged == 0))) in
-    subst (AllByRecursion NoStep) (sym cut)
-    (all_append NoStep (count_lines s w) (forged_lines forged) (counts_tell s net w) (forged_tells forged (forged == 0)))
-
-abbrev sum_row : Setting → List Happened → ℕ → List (List ℕ)
-sum_row s events n =
-    let offs = tracked s n events in
-    sum_words ((world_after s events).node n).ticks (count_of offs) (worst_of offs) (pos (path_of s.cfg n))
-    (servo_word (state_of (node_setting_of s n) ((world_after s events).node n)))
-
-sum_are : (s : Setting) → IsNetwork s → (events : List Happened) (n : ℕ) → AreWords (name_at s.cfg n ∷ sum_row s events n)
-sum_are s net events n =
-    let offs = tracked s n events in (
-      at_word s.cfg net.accepted.names n,
-      (
-        refl,
-        (
-          decimal_word ((world_after s events).node n).ticks,
-          (
-            decimal_word (count_of offs),
-            (
-              decimal_word (worst_of offs),
-              (signed_word (pos (path_of s.cfg n)), (servo_are (state_of (node_setting_of s n) ((world_after s events).node n)), tt)),
-            ),
-          ),
-        ),
-      ),
-    )
-
-sum_whole : (s : Setting) → IsNetwork s → (events : List Happened) (ns : List ℕ) → AllByRecursion IsWhole (map (node_sum s events) ns)
-sum_whole s net events [] = tt
-sum_whole s net events (n ∷ ns) = (line_whole (name_at s.cfg n ∷ sum_row s events n) (sum_are s net events n), sum_whole s net events ns)
-
-sum_tells : (s : Setting) → IsNetwork s → (events : List Happened) (ns : List ℕ) → AllByRecursion NoStep (map (node_sum s events) ns)
-sum_tells s net events [] = tt
-sum_tells s net events (n ∷ ns) =
-    (no_step (node_sum s events n) (counted (name_at s.cfg n) (sum_row s events n) (sum_are s net events n) refl), sum_tells s net events ns)
-
-concat_map : {A : Type 0} (g : A → List ℕ) (xs : List A) → concat (map g xs) ≡ flat_map g xs
-concat_map g [] = refl
-concat_map g (x ∷ xs) = ap (λ (rest : List ℕ). g x ++ rest) (concat_map g xs)
-
-sums_tell : (s : Setting) → IsNetwork s → (events : List Happened) (last : List ℕ) → last ≡ sum_lines s events → AllByRecursion NoStep (lines_of last)
-sums_tell s net events last is =
-    let lines : List (List ℕ) = map (node_sum s events) (nodes_of s) in
-    let cut : lines_of last ≡ lines =
-    ap lines_of (is ∙ sym (concat_map (node_sum s events) (nodes_of s))) ∙ lines_alone lines (sum_whole s net events (nodes_of s)) in
-    subst (AllByRecursion NoStep) (sym cut) (sum_tells s net events (nodes_of s))
+no_step_last : HasLastLines NoStep
+no_step_last = record {
+  large = λ n. few_words (codes "too-large") (decimal n ∷ []) (large_words n) refl;
+  text = few_words (codes "too-large") (codes "0" ∷ []) (refl, (refl, tt)) refl;
+  trace = λ n fault.
+      few_words (codes "bad-trace") (decimal n ∷ decimal (code_of fault) ∷ name_of fault ∷ decimal (field_of fault) ∷ []) (trace_words n fault) refl;
+  broken = λ n breach.
+      few_words (codes "broken")
+      (decimal n ∷ decimal breach.premise ∷ premise_name breach.premise ∷ signed_decimal breach.shown ∷ signed_decimal breach.bound ∷ [])
+      (broken_words n breach) refl;
+  network = λ code place h.
+      third_other (codes "bad-network") (decimal code) (code_name code) place (network_words code place h) (code_other code);
+  forged = λ count. few_words (codes "forged") (decimal count ∷ []) (forged_words count) refl;
+  count = λ name port reason value h.
+      few_words name (count_words port (reason_word (number_of reason)) value) (counter_words name port reason value h) refl;
+  sum = λ name ticks tracks worst bound state h.
+      few_words name (sum_words ticks tracks worst bound (servo_word state)) (run_words name ticks tracks worst bound state h) refl;
+}
 
 -- Lines behind and in front
 
@@ -455,7 +267,7 @@ audit_is s (h ∷ before) = ap₂ (λ (a b : List (List ℕ)). a ++ b) (audit_is
 
 audit_due : ReadingIsAccepted → EventsCanCome → StepsComeSynced → (asked : CommandLine) (input : List ℕ) (status : Status) (due : List ℕ)
     → ReachesNone input status due ⊎ StepsOf asked input status due → StepsAreSynced (lines_of due)
-audit_due accepted can law asked input status due (inl none) = none_synced due (none_tells input status due none)
+audit_due accepted can law asked input status due (inl none) = none_synced due (none_tells NoStep no_step_last input status due none)
 audit_due accepted can law asked input status due (inr steps) =
     let s : Setting = steps.setting in
     let run : IsRun s steps.events = run_of can accepted asked input s steps.events steps.came in
@@ -466,7 +278,7 @@ audit_due accepted can law asked input status due (inr steps) =
     let own : StepsAreSynced lines = subst StepsAreSynced (audit_is s steps.events) (law (λ o. true) s steps.events all_states run) in
     subst StepsAreSynced (sym cut)
     (behind lines (lines_of steps.last) own
-    (last_tells status s steps.came.front steps.came.behind (all_counts s (world_after s steps.events)) steps.last (all_tell s run.network (world_after s steps.events)) steps.ends))
+    (last_tells NoStep no_step_last status s steps.came.front steps.came.behind (all_counts s (world_after s steps.events)) steps.last (all_told NoStep no_step_last s run.network (world_after s steps.events)) steps.ends))
 
 -- A run over a link
 
@@ -479,16 +291,6 @@ loop_among s (h ∷ before) names each =
     among_append (loop_lines s before) (lines_in (λ o. true) s before) (marked_line s.cfg h.event ∷ steps_lines s before h) (lines_at (λ o. true) s before h)
     (loop_among s before names each.1)
     (inl (event_other s h names (each.0, tt), subst (Among (steps_lines s before h)) (sym (same_lines s before h)) (among_all (steps_lines s before h))))
-
-behind_tells : (status : Status) (x : Plan) (calls later : List LinkCall) (last : Going) (text : List ℕ) → IsNetwork x.setting
-    → StandsBehind status x calls later last text → AllByRecursion NoStep (lines_of text)
-behind_tells Done x calls later last text net ends =
-    subst (λ (l : List ℕ). AllByRecursion NoStep (lines_of l)) (sym ends.2)
-    (closing_tells x.setting net (world_after x.setting (events_at (place last))) (place last).forged)
-behind_tells TooLarge x calls later last text net ends = large event_limit text ends.2
-behind_tells LinkFault x calls later last text net ends = nothing text ends.1
-behind_tells OutOfMemory x calls later last text net ends = nothing text ends.1
-behind_tells status x calls later last text net ends = absurd ends
 
 loop_of : StepsComeSynced
     → (asked : CommandLine) (input : List ℕ) (calls : List LinkCall) (status : Status) (due : List ℕ) (loop : LoopOf asked input calls status due) →
@@ -503,20 +305,15 @@ loop_of law asked input calls status due loop carried =
     subst StepsAreSynced (sym cut)
     (behind (loop_lines s events) (lines_of loop.behind)
     (synced_among (loop_lines s events) (lines_in (λ o. true) s events) (loop_among s events net.accepted.names carried.run.each) (law (λ o. true) s events all_states carried.run))
-    (behind_tells status (plan_of s loop.came.scene loop.came.seed) calls loop.came.later loop.last loop.behind net loop.ends))
-
-link_tells : (asked : CommandLine) (input : List ℕ) (calls : List LinkCall) (status : Status) (octets : List ℕ) → LacksLink asked input calls status octets
-    → AllByRecursion NoStep (lines_of octets)
-link_tells asked input calls LinkFault octets lacks = nothing octets lacks.none
-link_tells asked input calls status octets lacks = absurd lacks
+    (loop_tells NoStep no_step_last status (plan_of s loop.came.scene loop.came.seed) calls loop.came.later loop.last loop.behind net loop.ends))
 
 loop_due : StepsComeSynced → (asked : CommandLine) (input : List ℕ) (calls : List LinkCall) (status : Status) (octets : List ℕ)
     → LoopHeadline asked input calls status octets → (other : Status) (due : List ℕ) →
     IsLoopDue asked input calls other due → StepsAreSynced (lines_of due)
-loop_due law asked input calls status octets head other due (inl none) = none_synced due (none_tells input other due none.0)
+loop_due law asked input calls status octets head other due (inl none) = none_synced due (none_tells NoStep no_step_last input other due none.0)
 loop_due law asked input calls status octets head other due (inr (inl scene)) =
-    none_synced due (names_tells other scene.setting scene.front scene.line due scene.is)
-loop_due law asked input calls status octets head other due (inr (inr (inl link))) = none_synced due (link_tells asked input calls other due link)
+    none_synced due (names_tells NoStep no_step_last other scene.setting scene.front scene.line due scene.is)
+loop_due law asked input calls status octets head other due (inr (inr (inl link))) = none_synced due (link_tells NoStep asked input calls other due link)
 loop_due law asked input calls status octets head other due (inr (inr (inr loop))) =
     loop_of law asked input calls other due loop (head.carries loop.setting loop.last loop.came)
 
@@ -559,13 +356,6 @@ run_whole s names (h ∷ before) =
 printed_states : PrintsStates is_printed
 printed_states = record { steps = λ cycles. refl; states = λ state. refl }
 
-after_tells : (asked : CommandLine) (input : List ℕ) (status : Status) (due : List ℕ) (run : RunOf asked input status due) → IsNetwork run.setting
-    → AllByRecursion NoStep (lines_of run.last)
-after_tells asked input Done due run net = sums_tell run.setting net run.events run.last run.ends.1
-after_tells asked input TooLarge due run net = large (length run.events + 1) run.last run.ends.3
-after_tells asked input OutOfMemory due run net = nothing run.last run.ends
-after_tells asked input status due run net = absurd run.ends
-
 sim_of : StepsComeSynced → (asked : CommandLine) (input : List ℕ) (status : Status) (due : List ℕ) (run : RunOf asked input status due)
     → CarriesRun run_lines run.setting run.events → StepsAreSynced (lines_of due)
 sim_of law asked input status due run carried =
@@ -577,13 +367,14 @@ sim_of law asked input status due run carried =
     ∙ lines_behind lines run.last (run_whole s net.accepted.names run.events) in
     subst StepsAreSynced (sym cut)
     (behind lines (lines_of run.last) (law is_printed s run.events printed_states carried.run)
-    (after_tells asked input status due run net))
+    (after_tells NoStep no_step_last status s run.made.scene run.events run.made.at run.last net run.ends))
 
 sim_due : StepsComeSynced → (asked : CommandLine) (input : List ℕ) (status : Status) (octets : List ℕ) → SimHeadline asked input status octets
     → (other : Status) (due : List ℕ) →
     ReachesNone input other due ⊎ (LacksScenario asked input other due ⊎ RunOf asked input other due) → StepsAreSynced (lines_of due)
-sim_due law asked input status octets head other due (inl none) = none_synced due (none_tells input other due none)
-sim_due law asked input status octets head other due (inr (inl scene)) = none_synced due (names_tells other scene.setting scene.front scene.line due scene.is)
+sim_due law asked input status octets head other due (inl none) = none_synced due (none_tells NoStep no_step_last input other due none)
+sim_due law asked input status octets head other due (inr (inl scene)) =
+    none_synced due (names_tells NoStep no_step_last other scene.setting scene.front scene.line due scene.is)
 sim_due law asked input status octets head other due (inr (inr run)) = sim_of law asked input other due run (head.carries run.setting run.events run.made)
 
 -- A run
