@@ -1,10 +1,8 @@
 -- What the octets of an event say, and the answer of the links' laws with which it can come: behind the first input of an
 -- event no frame is given.
-use Rattle.std.proofs.Common.{◌≡◌, ◌⊎◌, inl, inr, refl, sym, subst, ap, ℕ, ℤ, pos, ◌==◌, Bool, true, false, if◌then◌else◌, List, [], ◌∷◌, ◌++◌, flat_map, Option, None, Some, option_map, Result, Err}
-use Rattle.std.specs.List.{AllByRecursion}
+use Rattle.std.proofs.Common.{◌≡◌, ◌⊎◌, inl, inr, refl, sym, subst, ap, ℕ, ℤ, pos, ◌==◌, Bool, true, false, if◌then◌else◌, List, [], ◌∷◌, Option, None, Some, option_map, Result, Err}
 use Rattle.std.specs.Option.{option_map_or}
 use Rattle.std.proofs.lemmas.Bool.{eqb-true}
-use Rattle.wrp_base.specs.declared.link.Role.{Role}
 use Rattle.wrp_base.specs.declared.link.Role.TheVariants.{Master}
 use Rattle.wrp_base.specs.declared.message.Body.{Body}
 use Rattle.wrp_base.specs.declared.message.Body.TheVariants.{Sync, DelayReq, FollowUp, DelayResp, Announce, Signal}
@@ -12,7 +10,6 @@ use Rattle.wrp_base.specs.declared.message.PtpMsg.{PtpMsg}
 use Rattle.wrp_base.specs.Network.{End, other_of}
 use Rattle.wrp_frame.specs.declared.fault.FrameFault.{FrameFault}
 use Rattle.wrp_frame.specs.declared.fault.FrameFault.TheVariants.{Short}
-use Rattle.wrp_node.specs.declared.interface.Input.TheVariants as inputs
 use Rattle.wrp_node.specs.NodeAt.{numbers_of, servo_setting_of}
 use Rattle.wrp_node.specs.OneRun.{answers_by}
 use Rattle.wrp_node.specs.StepLaws.{is_frame}
@@ -20,17 +17,18 @@ use Rattle.wrp_servo.specs.Servo.{AllAnswered}
 use Rattle.wrp_course.specs.declared.breach.Breach.{Breach}
 use Rattle.wrp_course.specs.declared.event.Event.{Event}
 use Rattle.wrp_course.specs.declared.event.Event.TheVariants.{Pass, Tick, Sample, Depart, Arrive, Deliver, Noise, Down, Up, Cut, Join}
-use Rattle.wrp_course.specs.declared.place.Place.{Place}
 use Rattle.wrp_course.specs.Checks.{Check, breach_of, first_broken, told_of}
-use Rattle.wrp_course.specs.Given.{Given, at_ports, comes_at, comes_from, delivered, delivered_by, delivered_to, given_by, given_plain, gives, gives_all, goes_at, goes_from, if_carried, sent_oldest, step_of, taken_of, told_sending, world_step}
+use Rattle.wrp_course.specs.Given.{Given, at_ports, comes_from, delivered, delivered_by, delivered_to, given_by, gives, gives_all, goes_from, sent_oldest, step_of, taken_of, told_sending, world_step}
 use Rattle.wrp_course.specs.Moved.{moved, waiting_at}
 use Rattle.wrp_course.specs.Premises.{Accepts, checks_of}
 use Rattle.wrp_course.specs.Run.{IsAnswered, IsSaid}
-use Rattle.wrp_course.specs.Setting.{Setting, end_at, entry_at, node_setting_of, place_of}
+use Rattle.wrp_course.specs.Setting.{Setting, end_at, node_setting_of, place_of}
 use Rattle.wrp_course.specs.WorldAt.{Arrival, FrameAt, Sending, WorldAt, has_carrier}
 use Rattle.wrp_course.proofs.Unbroken.{accepted_is_unbroken}
 use Rattle.wrp_due.proofs.Measuring.{plain_answered, step_answered}
 use Rattle.wrp_frame.proofs.Saying.{each_says}
+use Rattle.wrp_course.proofs.RunGifts.{AllGiven, all_if, comes_all, goes_all, ports_all}
+use Rattle.wrp_node.specs.declared.interface.Input.{Input}
 
 -- What the octets of an event say
 
@@ -49,8 +47,11 @@ event_said (Join k ms sm) = (Err Short, tt)
 
 -- Inputs that are no frames
 
+abbrev NoFrame : Input → Type 0
+NoFrame x = is_frame x ≡ false
+
 abbrev ArePlain : List Given → Type 0
-ArePlain gs = AllByRecursion (λ (g : Given). is_frame g.input ≡ false) gs
+ArePlain gs = AllGiven NoFrame gs
 
 -- behind the first all are
 abbrev FirstAlone : List Given → Type 0
@@ -60,39 +61,6 @@ FirstAlone (g ∷ gs) = ArePlain gs
 first_if : (gs : List Given) → ArePlain gs → FirstAlone gs
 first_if [] h = tt
 first_if (g ∷ gs) h = h.1
-
-both_plain : (xs ys : List Given) → ArePlain xs → ArePlain ys → ArePlain (xs ++ ys)
-both_plain [] ys h k = k
-both_plain (x ∷ xs) ys h k = (h.0, both_plain xs ys h.1 k)
-
-where_plain : (b : Bool) (gs : List Given) → ArePlain gs → ArePlain (if b then gs else [])
-where_plain true gs h = h
-where_plain false gs h = tt
-
-gone_plain : (o : Option End) → ArePlain (option_map_or (λ (end : End). given_plain end.node (inputs.Carrier end.port false None) ∷ []) o [])
-gone_plain None = tt
-gone_plain (Some end) = (refl, tt)
-
-goes_plain : (s : Setting) (k : ℕ) (r : Role) → ArePlain (goes_from s k r)
-goes_plain s k r = both_plain (goes_at s k r) (goes_at s k (other_of r)) (gone_plain (end_at s k r)) (gone_plain (end_at s k (other_of r)))
-
-come_plain : (s : Setting) (v : WorldAt) (k : ℕ) (r : Role) (o : Option End) → ArePlain (option_map_or (λ (end : End). given_plain end.node (inputs.Carrier end.port true (entry_at s k r (v.end_at k r).name)) ∷ []) o [])
-come_plain s v k r None = tt
-come_plain s v k r (Some end) = (refl, tt)
-
-comes_plain : (s : Setting) (v : WorldAt) (k : ℕ) (r : Role) → ArePlain (comes_from s v k r)
-comes_plain s v k r = both_plain (comes_at s v k r) (comes_at s v k (other_of r)) (come_plain s v k r (end_at s k r)) (come_plain s v k (other_of r) (end_at s k (other_of r)))
-
-carried_plain : (s : Setting) (w : WorldAt) (f : ℕ → Role → List Given) → ((k : ℕ) (r : Role) → ArePlain (f k r)) → (o : Option Place) → ArePlain (if_carried s w f o)
-carried_plain s w f h None = tt
-carried_plain s w f h (Some place) = where_plain (has_carrier s w place.link) (f place.link place.role) (h place.link place.role)
-
-each_plain : (f : ℕ → List Given) → ((p : ℕ) → ArePlain (f p)) → (ps : List ℕ) → ArePlain (flat_map f ps)
-each_plain f h [] = tt
-each_plain f h (p ∷ ps) = both_plain (f p) (flat_map f ps) (h p) (each_plain f h ps)
-
-ports_plain : (s : Setting) (w : WorldAt) (f : ℕ → Role → List Given) (n : ℕ) → ((k : ℕ) (r : Role) → ArePlain (f k r)) → ArePlain (at_ports s w f n)
-ports_plain s w f n h = each_plain (λ p. if_carried s w f (place_of s n p)) (λ p. carried_plain s w f h (place_of s n p)) (numbers_of (s.set n))
 
 told_alone : (n p seq : ℕ) (stamp : ℤ) (samples : ℕ) (body : Body) → FirstAlone (told_sending n p seq stamp samples body)
 told_alone n p seq stamp samples (Sync origin) = tt
@@ -126,12 +94,15 @@ given_alone s w v says (Depart n p stamp) = oldest_alone n p stamp (w.clock n).s
 given_alone s w v says (Arrive i raw) = tt
 given_alone s w v says (Deliver i) = frame_alone s (w.frame i)
 given_alone s w v says (Noise n p octets raw) = tt
-given_alone s w v says (Down n) = first_if (at_ports s w (goes_from s) n) (ports_plain s w (goes_from s) n (goes_plain s))
-given_alone s w v says (Up n off swaps) = ports_plain s v (comes_from s v) n (comes_plain s v)
+given_alone s w v says (Down n) =
+    first_if (at_ports s w (goes_from s) n) (ports_all NoFrame s w (goes_from s) n (numbers_of (s.set n)) (goes_all NoFrame (λ p. refl) s))
+given_alone s w v says (Up n off swaps) = ports_all NoFrame s v (comes_from s v) n (numbers_of (s.set n)) (comes_all NoFrame (λ p m. refl) s v)
 given_alone s w v says (Cut k) =
-    first_if (if has_carrier s w k then goes_from s k Master else []) (where_plain (has_carrier s w k) (goes_from s k Master) (goes_plain s k Master))
+    first_if (if has_carrier s w k then goes_from s k Master else [])
+    (all_if NoFrame (has_carrier s w k) (goes_from s k Master) (goes_all NoFrame (λ p. refl) s k Master))
 given_alone s w v says (Join k ms sm) =
-    first_if (if has_carrier s v k then comes_from s v k Master else []) (where_plain (has_carrier s v k) (comes_from s v k Master) (comes_plain s v k Master))
+    first_if (if has_carrier s v k then comes_from s v k Master else [])
+    (all_if NoFrame (has_carrier s v k) (comes_from s v k Master) (comes_all NoFrame (λ p m. refl) s v k Master))
 
 -- The answers of the laws, which are functions
 

@@ -1,13 +1,12 @@
 -- What the events of a run give a node, and what it puts out, among what all nodes are given and put out.
 use Rattle.std.proofs.Common.{◌≡◌, ◌∙◌, refl, ap, ap₂, sym, subst, append_assoc, append-nil, ℕ, ℤ, ◌==◌, Bool, true, false, if◌then◌else◌, List, [], ◌∷◌, ◌++◌, map, flat_map, Option, None, Some, Result}
-use Rattle.std.specs.List.{AllByRecursion, concat, filter}
+use Rattle.std.specs.List.{concat, filter}
 use Rattle.std.specs.Option.{option_map_or}
 use Rattle.std.proofs.lemmas.Bool.{eqb-true}
 use Rattle.std.proofs.lemmas.Grind.{flat_map-append}
 use Rattle.std.proofs.lemmas.List.Elements.{filter-append}
 use Rattle.std.proofs.lemmas.List.Folds.{flat_map-map}
 use Rattle.wrp_base.specs.declared.configuration.NetCfg.{NetCfg}
-use Rattle.wrp_base.specs.declared.link.Role.{Role}
 use Rattle.wrp_base.specs.declared.link.Role.TheVariants.{Master}
 use Rattle.wrp_base.specs.declared.message.Body.{Body}
 use Rattle.wrp_base.specs.declared.message.Body.TheVariants.{Sync, DelayReq, FollowUp, DelayResp, Announce, Signal}
@@ -28,12 +27,11 @@ use Rattle.wrp_trace.specs.Printing.{line_of}
 use Rattle.wrp_trace.specs.LineSetting.{LineSetting, line_setting_in}
 use Rattle.wrp_course.specs.declared.event.Event.{Event}
 use Rattle.wrp_course.specs.declared.event.Event.TheVariants.{Pass, Tick, Sample, Depart, Arrive, Deliver, Noise, Down, Up, Cut, Join}
-use Rattle.wrp_course.specs.declared.place.Place.{Place}
 use Rattle.wrp_plant.proofs.Departing.{turned_about}
-use Rattle.wrp_course.specs.Given.{Given, NodeStepAt, at_ports, comes_at, comes_from, delivered, delivered_by, delivered_to, given_by, given_plain, gives, gives_all, goes_at, goes_from, if_carried, node_step_of, sent_oldest, step_of, steps_of, taken_of, told_sending}
+use Rattle.wrp_course.specs.Given.{Given, NodeStepAt, at_ports, comes_from, delivered, delivered_by, delivered_to, given_by, gives, gives_all, goes_from, node_step_of, sent_oldest, step_of, steps_of, taken_of, told_sending}
 use Rattle.wrp_course.specs.Moved.{moved, waiting_at}
 use Rattle.wrp_course.specs.Run.{Happened, steps_at, world_after}
-use Rattle.wrp_course.specs.Setting.{Setting, end_at, entry_at, node_setting_of, place_of}
+use Rattle.wrp_course.specs.Setting.{Setting, end_at, node_setting_of, place_of}
 use Rattle.wrp_course.specs.WorldAt.{Arrival, FrameAt, Sending, WorldAt, has_carrier}
 use Rattle.wrp_network_world.specs.NetworkSetting.{setting_at}
 use Rattle.wrp_audit.specs.AuditText.{audit_lines, given_line, given_lines, step_lines}
@@ -43,6 +41,7 @@ use Rattle.wrp_network_world.proofs.WorldRuns.{made_after, made_given}
 use Rattle.wrp_records.proofs.Reaching.{concat-snoc}
 use Rattle.wrp_projection.specs.Projection.{PutOut, audit_line, of_node, replay_line}
 use Rattle.wrp_projection.proofs.Written.{record_of, records_of, written}
+use Rattle.wrp_course.proofs.RunGifts.{AllGiven, all_if, comes_all, goes_all, ports_all}
 
 -- Numbers
 
@@ -115,7 +114,7 @@ Stays inputs.Reset = ⊥
 Stays _ = Unit {0}
 
 abbrev AllStay : List Given → Type 0
-AllStay gs = AllByRecursion (λ (g : Given). Stays g.input) gs
+AllStay gs = AllGiven Stays gs
 
 abbrev Late : List Given → Type 0
 Late [] = Unit {0}
@@ -124,42 +123,6 @@ Late (g ∷ gs) = AllStay gs × Late gs
 late_if : (gs : List Given) → AllStay gs → Late gs
 late_if [] h = tt
 late_if (g ∷ gs) h = (h.1, late_if gs h.1)
-
-both_stay : (xs ys : List Given) → AllStay xs → AllStay ys → AllStay (xs ++ ys)
-both_stay [] ys h k = k
-both_stay (x ∷ xs) ys h k = (h.0, both_stay xs ys h.1 k)
-
-where_stay : (b : Bool) (gs : List Given) → AllStay gs → AllStay (if b then gs else [])
-where_stay true gs h = h
-where_stay false gs h = tt
-
-gone_stay : (o : Option End) → AllStay (option_map_or (λ (end : End). given_plain end.node (inputs.Carrier end.port false None) ∷ []) o [])
-gone_stay None = tt
-gone_stay (Some end) = (tt, tt)
-
-goes_stay : (s : Setting) (k : ℕ) (r : Role) → AllStay (goes_from s k r)
-goes_stay s k r = both_stay (goes_at s k r) (goes_at s k (other_of r)) (gone_stay (end_at s k r)) (gone_stay (end_at s k (other_of r)))
-
-come_stay : (s : Setting) (v : WorldAt) (k : ℕ) (r : Role) (o : Option End)
-    → AllStay (option_map_or (λ (end : End). given_plain end.node (inputs.Carrier end.port true (entry_at s k r (v.end_at k r).name)) ∷ []) o [])
-come_stay s v k r None = tt
-come_stay s v k r (Some end) = (tt, tt)
-
-comes_stay : (s : Setting) (v : WorldAt) (k : ℕ) (r : Role) → AllStay (comes_from s v k r)
-comes_stay s v k r =
-    both_stay (comes_at s v k r) (comes_at s v k (other_of r)) (come_stay s v k r (end_at s k r)) (come_stay s v k (other_of r) (end_at s k (other_of r)))
-
-carried_stay : (s : Setting) (w : WorldAt) (f : ℕ → Role → List Given) → ((k : ℕ) (r : Role) → AllStay (f k r)) → (o : Option Place)
-    → AllStay (if_carried s w f o)
-carried_stay s w f h None = tt
-carried_stay s w f h (Some place) = where_stay (has_carrier s w place.link) (f place.link place.role) (h place.link place.role)
-
-each_stay : (f : ℕ → List Given) → ((p : ℕ) → AllStay (f p)) → (ps : List ℕ) → AllStay (flat_map f ps)
-each_stay f h [] = tt
-each_stay f h (p ∷ ps) = both_stay (f p) (flat_map f ps) (h p) (each_stay f h ps)
-
-ports_stay : (s : Setting) (w : WorldAt) (f : ℕ → Role → List Given) (n : ℕ) → ((k : ℕ) (r : Role) → AllStay (f k r)) → AllStay (at_ports s w f n)
-ports_stay s w f n h = each_stay (λ p. if_carried s w f (place_of s n p)) (λ p. carried_stay s w f h (place_of s n p)) (numbers_of (s.set n))
 
 told_late : (n p seq : ℕ) (stamp : ℤ) (samples : ℕ) (body : Body) → Late (told_sending n p seq stamp samples body)
 told_late n p seq stamp samples (Sync origin) = (tt, tt)
@@ -193,14 +156,17 @@ late_given s w v says (Depart n p stamp) = oldest_late n p stamp (w.clock n).sam
 late_given s w v says (Arrive i raw) = tt
 late_given s w v says (Deliver i) = frame_late s (w.frame i)
 late_given s w v says (Noise n p octets raw) = (tt, tt)
-late_given s w v says (Down n) = late_if (at_ports s w (goes_from s) n) (ports_stay s w (goes_from s) n (goes_stay s))
+late_given s w v says (Down n) =
+    late_if (at_ports s w (goes_from s) n) (ports_all Stays s w (goes_from s) n (numbers_of (s.set n)) (goes_all Stays (λ p. tt) s))
 late_given s w v says (Up n off swaps) =
-    let stay = ports_stay s v (comes_from s v) n (comes_stay s v) in
+    let stay = ports_all Stays s v (comes_from s v) n (numbers_of (s.set n)) (comes_all Stays (λ p m. tt) s v) in
     (stay, late_if (at_ports s v (comes_from s v) n) stay)
 late_given s w v says (Cut k) =
-    late_if (if has_carrier s w k then goes_from s k Master else []) (where_stay (has_carrier s w k) (goes_from s k Master) (goes_stay s k Master))
+    late_if (if has_carrier s w k then goes_from s k Master else [])
+    (all_if Stays (has_carrier s w k) (goes_from s k Master) (goes_all Stays (λ p. tt) s k Master))
 late_given s w v says (Join k ms sm) =
-    late_if (if has_carrier s v k then comes_from s v k Master else []) (where_stay (has_carrier s v k) (comes_from s v k Master) (comes_stay s v k Master))
+    late_if (if has_carrier s v k then comes_from s v k Master else [])
+    (all_if Stays (has_carrier s v k) (comes_from s v k Master) (comes_all Stays (λ p m. tt) s v k Master))
 
 stays_by : (x : Input) (ticks : ℕ) → Stays x → ticks_by x ticks ≡ ticks
 stays_by inputs.Tick ticks h = absurd h
