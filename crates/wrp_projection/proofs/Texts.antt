@@ -1,8 +1,8 @@
 -- The lines of outputs and of counters, by their words: each begins with the name of its node, and what stands behind its
 -- fifth word is the true offset.
-use Rattle.std.proofs.Common.{◌≡◌, ◌⊎◌, inl, inr, ◌∙◌, refl, ap, sym, append_assoc, ℕ, ℤ, pos, negsuc, zero, suc, ◌+◌, ◌/◌, ◌%◌, ◌≤◌, ◌==◌, ◌&&◌, ◌||◌, not, Bool, true, false, if◌then◌else◌, List, [], ◌∷◌, ◌++◌, take, length, Option, None, Some, arith}
-use Rattle.std.specs.Prelude.{nat_le, nat_lt, slice_index, slice_index_or}
-use Rattle.std.specs.Fmt.{decimal, digit_glyph, digits, digits_onto, signed_decimal}
+use Rattle.std.proofs.Common.{◌≡◌, ◌⊎◌, inl, inr, ◌∙◌, refl, ap, sym, append_assoc, ℕ, ℤ, zero, suc, ◌+◌, ◌/◌, ◌%◌, ◌≤◌, ◌==◌, ◌&&◌, ◌||◌, not, Bool, true, false, List, [], ◌∷◌, ◌++◌, take, length, Option, None, Some, arith}
+use Rattle.std.specs.Prelude.{nat_le, slice_index, slice_index_or}
+use Rattle.std.specs.Fmt.{decimal, signed_decimal}
 use Rattle.std.specs.List.{All, AllByRecursion, find, join_with_byte, list_all, slice_split}
 use Rattle.std.specs.Option.{option_map_or}
 use Rattle.std.proofs.lemmas.Bool.{and_from, and_parts, leb-true, ne_eqb, not-true, or_cases}
@@ -24,6 +24,7 @@ use Rattle.wrp_lines.specs.Words.{link_word, reason_word, servo_word}
 use Rattle.wrp_records.specs.Lines.{IsWhole, content_of}
 use Rattle.wrp_projection.specs.Projection.{without_truth, words_of}
 use Rattle.wrp_projection.proofs.Written.{content_clean, no_feeds, no_returns}
+use Rattle.wrp_records.proofs.WordLemmas.{decimal_passes, signed_passes}
 
 -- Octets that may stand in a word
 
@@ -36,34 +37,14 @@ IsWord text = list_all is_clean text ≡ true
 high_clean : (c : ℕ) → 33 ≤ c → is_clean c ≡ true
 high_clean c high = rw (ne_eqb c 32 (λ e. omega (arith, e, high)), ne_eqb c 10 (λ e. omega (arith, e, high)), ne_eqb c 13 (λ e. omega (arith, e, high))) refl
 
-either : (b : Bool) (x y : List ℕ) → IsWord x → IsWord y → IsWord (if b then x else y)
-either true x y h k = h
-either false x y h k = k
-
-glyph_by : (b : Bool) (d : ℕ) → is_clean (if b then 48 + d else (if false then 55 + d else 87 + d)) ≡ true
-glyph_by true d = high_clean (48 + d) (omega arith)
-glyph_by false d = high_clean (87 + d) (omega arith)
-
-glyph_clean : (d : ℕ) → is_clean (digit_glyph false d) ≡ true
-glyph_clean d = glyph_by (nat_lt d 10) d
-
 more_clean : (c : ℕ) (cs : List ℕ) → is_clean c ≡ true → IsWord cs → IsWord (c ∷ cs)
 more_clean c cs h k = and_from (is_clean c) (list_all is_clean cs) h k
 
-onto_clean : (k n : ℕ) (acc : List ℕ) → IsWord acc → IsWord (digits_onto k 10 false n acc)
-onto_clean zero n acc h = h
-onto_clean (suc k) n acc h =
-    let first : IsWord (digit_glyph false (n % 10) ∷ acc) = more_clean (digit_glyph false (n % 10)) acc (glyph_clean (n % 10)) h in
-    either (n / 10 == 0) (digit_glyph false (n % 10) ∷ acc) (digits_onto k 10 false (n / 10) (digit_glyph false (n % 10) ∷ acc)) first
-    (onto_clean k (n / 10) (digit_glyph false (n % 10) ∷ acc) first)
-
 pub decimal_word : (n : ℕ) → IsWord (decimal n)
-unfolding digits
-decimal_word n = onto_clean 64 n [] refl
+decimal_word n = decimal_passes is_clean high_clean n
 
 pub signed_word : (z : ℤ) → IsWord (signed_decimal z)
-signed_word (pos n) = decimal_word n
-signed_word (negsuc n) = more_clean 45 (decimal (suc n)) refl (decimal_word (suc n))
+signed_word z = signed_passes is_clean high_clean z
 
 index_clean : (xs : List ℕ) → IsWord xs → (d : ℕ) → is_clean (slice_index xs d) ≡ true
 index_clean [] h d = refl
