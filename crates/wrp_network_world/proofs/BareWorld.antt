@@ -41,7 +41,7 @@ use Rattle.wrp_servo.specs.Servo.{AllAnswered}
 use Rattle.wrp_trace.specs.LineSetting.{line_setting_in}
 use Rattle.wrp_network_world.specs.Counts.{all_counts}
 use Rattle.wrp_replay.specs.DownLaw.{law_at}
-use Rattle.wrp_network_world.proofs.Counts.{counts_bare}
+use Rattle.wrp_network_world.proofs.NodeCounts.{counts_bare}
 
 -- a setting whose network's names stand without their unused room
 abbrev pub bare_setting : Setting → Setting

@@ -1,10 +1,10 @@
 pub mod BareEvents
 pub mod BareWorld
 pub mod BoundLemmas
-pub mod Counts
 pub mod FieldsRead
 pub mod LawsMade
 pub mod LawsNear
 pub mod Leads
 pub mod NewWorld
+pub mod NodeCounts
 pub mod WorldRuns

@@ -2,7 +2,7 @@
 use Rattle.std.proofs.Common.{◌∙◌, ◌<◌, ap, arith}
 use Rattle.wrp_base.specs.Network.{node_count}
 use Rattle.wrp_config.specs.declared.network.Network.{Network}
-use Rattle.wrp_network_world.proofs.Counts.{all_nodes, node_less, no_node_less}
+use Rattle.wrp_network_world.proofs.NodeCounts.{all_nodes, node_less, no_node_less}
 use Rattle.wrp_network_world.proofs.counts.append_all_counts.Goals as goal
 
 pub loop-node-init : goal.loop-node-init

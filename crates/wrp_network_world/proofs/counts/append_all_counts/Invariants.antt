@@ -4,7 +4,7 @@ use Rattle.wrp_base.specs.Network.{node_count}
 use Rattle.wrp_course.specs.Setting.{Setting}
 use Rattle.wrp_world.specs.StandsFor.{StandsFor}
 use Rattle.wrp_course.specs.WorldAt.{WorldAt}
-use Rattle.wrp_network_world.proofs.Counts.{LacksNodes}
+use Rattle.wrp_network_world.proofs.NodeCounts.{LacksNodes}
 use Rattle.wrp_network_world.proofs.counts.append_all_counts.Given as goal
 
 abbrev pub invariant-loop-node : goal.invariant-loop-node

@@ -1,6 +1,6 @@
 -- The counters are those of the node in the world.
 use Rattle.std.proofs.lemmas.Result.{IfOk-weaker}
-use Rattle.wrp_network_world.proofs.Counts.{counted_node, owns_ports_of}
+use Rattle.wrp_network_world.proofs.NodeCounts.{counted_node, owns_ports_of}
 use Rattle.wrp_network_world.proofs.counts.append_node.Goals as goal
 
 pub append_counts-requires-clause-ports : goal.append_counts-requires-clause-ports

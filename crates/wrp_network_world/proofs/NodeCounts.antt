@@ -1,4 +1,4 @@
--- The counters that close an audit, a node after the other.
+-- The counters that close the records over a world, a node after the other.
 use Rattle.std.proofs.Common.{◌≡◌, ◌∙◌, refl, ap, ap₂, sym, append_assoc, append-nil, ℕ, ℤ, suc, ◌+◌, ◌-◌, ◌==◌, ◌<◌, ◌≤◌, if◌then◌else◌, List, [], ◌++◌, flat_map, map, Some, arith}
 use Rattle.std.specs.Prelude.{slice_get}
 use Rattle.std.specs.List.{list_any}
