@@ -19,9 +19,9 @@ use Rattle.wrp_handshake.specs.Laws.{IsAwake}
 use Rattle.wrp_handshake.proofs.Failing.{row_fails}
 use Rattle.wrp_handshake.proofs.RowFits.{RowFits, row_fits}
 use Rattle.wrp_handshake.proofs.Times.{Calm, calm_over}
-use Rattle.wrp_link_up_laws.specs.Pace.{InTurn, IsPrompt, LeavesCarrier, IsSteady}
+use Rattle.wrp_link_up_laws.specs.Pace.{InTurn, IsPrompt, IsReady, LeavesCarrier, IsSteady, rest_of}
 use Rattle.wrp_link_up_laws.proofs.Exchanges.{grown}
-use Rattle.wrp_link_up_laws.proofs.Ports.{Given, Holds, BothHold, PortUp, Outcome, stays, moves, Step, row_up, reached, told_from}
+use Rattle.wrp_link_up_laws.proofs.Ports.{Given, Holds, BothHold, PortUp, Outcome, stays, moves, Step, row_up, reached, told_from, no_holdoff, no_quiet, none_left}
 use Rattle.wrp_link_up_laws.proofs.Stages.{a_wait, by_two, by_three, before_calibrate, Exchange, calls, answers, tells, waits, Stage, resting, offered, answered, locking, locked, down, up, turning, Prompt}
 use Rattle.wrp_link_up_laws.proofs.Steps.{master_patient, slave_patient, master_steps, slave_steps, Stepped}
 use Rattle.wrp_link_up_laws.proofs.Sums.{on_long, since_lit, below}
@@ -144,18 +144,18 @@ outcome_role g time lit role l e input next tick sent ms (stays u same firm q al
 outcome_role g time lit role l e input next tick sent ms (moves to u same m fresh) = u.same_role
 
 -- a port that is awake is so since long after the carriers came
-awake_by :
+pub awake_by :
     (g : Given) (time lit : ℤ) (role : Role) (l : LinkAt) (tick : ℤ) (sent : List Sending) (e : ℤ) →
-    Holds g role → PortUp g time lit role l tick sent e → (l.state ≡ Idle) ⊎ (l.state ≢ Idle) → (l.state ≡ Idle → l.quiet ≡ 0) → (lit +ℤ pos (2 * g.life)) <ℤ time
+    Holds g role → PortUp g time lit role l tick sent e → (l.state ≡ Idle) ⊎ (l.state ≢ Idle) → (l.state ≡ Idle → rest_of l ≡ 0) → (lit +ℤ pos (2 * g.life)) <ℤ time
 awake_by g time lit role l tick sent e h u which quiet =
     elim which [
       | inl i ↦
-          calm_over g.life g.dmin (g.set role).quiet tick time lit h.outlives u.ticked
-          (subst (λ (q : ℕ). Calm g.dmin (g.set role).quiet q tick lit) (quiet i) (u.calm i))
+          calm_over g.life g.dmin (g.rest role) tick time lit h.rests u.ticked
+          (subst (λ (q : ℕ). Calm g.dmin (g.rest role) q tick lit) (quiet i) (u.calm i))
       | inr out ↦ below lit e time (2 * g.life) (u.awake out) u.past
     ]
 
-idle_or_out : (s : LinkState) → (s ≡ Idle) ⊎ (s ≢ Idle)
+pub idle_or_out : (s : LinkState) → (s ≡ Idle) ⊎ (s ≢ Idle)
 idle_or_out Idle = inl refl
 idle_or_out _ = inr (λ e. cc)
 
@@ -163,7 +163,7 @@ idle_or_out _ = inr (λ e. cc)
 told_by :
     (g : Given) (time lit : ℤ) (role other : Role) (p q : Port) (e qe : ℤ) (input : LinkIn) (at0 : ℤ) →
     Holds g role → PortUp g time lit role p.link p.ticked p.sent e → PortUp g time lit other q.link q.ticked q.sent qe →
-    MayHear g.life g.dmin time p q input at0 → (p.link.state ≡ Idle → p.link.quiet ≡ 0) →
+    MayHear g.life g.dmin time p q input at0 → (p.link.state ≡ Idle → rest_of p.link ≡ 0) →
     (m : WrMsg) → input ≡ Msg m → told_from other m ≤ reached other q.link.state
 told_by g time lit role other p q e qe input at0 h u uq may quiet m is =
     let told : MayHear g.life g.dmin time p q (Msg m) at0 = subst (λ (i : LinkIn). MayHear g.life g.dmin time p q i at0) is may in
@@ -173,7 +173,7 @@ told_by g time lit role other p q e qe input at0 h u uq may quiet m is =
       | inr le ↦ le
     ]
 
-early_of : (life dmin : ℕ) (time : ℤ) (p q : Port) (input : LinkIn) (at0 : ℤ) → MayHear life dmin time p q input at0 → IsTick input → (p.ticked +ℤ pos dmin) ≤ℤ time
+pub early_of : (life dmin : ℕ) (time : ℤ) (p q : Port) (input : LinkIn) (at0 : ℤ) → MayHear life dmin time p q input at0 → IsTick input → (p.ticked +ℤ pos dmin) ≤ℤ time
 early_of life dmin time p q (Tick seen) at0 may t = may
 early_of life dmin time p q (Msg m) at0 may t = absurd t
 early_of life dmin time p q (Announce suffix) at0 may t = absurd t
@@ -196,7 +196,7 @@ exchange_not_on g first older taker gl rl ge re slack by (tells gs rs c a b d e 
 exchange_not_on g first older taker gl rl ge re slack by (waits gs rs a b which) = (not_on gl Calibrated gs (λ e. cc), not_on rl RespCalib rs (λ e. cc))
 
 -- the master is not chased out of WR_LINK_ON
-master_safe :
+pub master_safe :
     (g : Given) (first : BothPorts) (older : List Change) (time lit : ℤ) (p q : Port) (me se : ℤ) (input : LinkIn) (at0 : ℤ) →
     Holds g Master → PortUp g time lit Master p.link p.ticked p.sent me → MayHear g.life g.dmin time p q input at0 →
     Stage g first older lit p.link q.link me se q.sent →
@@ -228,7 +228,7 @@ slave_safe g first older lit ml sl me se sent (up x) on = (exchange_not_on g fir
 slave_safe g first older lit ml sl me se sent (turning mi si a b o f) on = not_on sl Calibrated si (λ e. cc) on
 
 -- what an input makes of a port
-outcome_of :
+pub outcome_of :
     (g : Given) (time lit : ℤ) (role : Role) (p : Port) (e : ℤ) (input : LinkIn) → Step g role time p.link p.ticked e input →
     PortUp g time lit role p.link p.ticked p.sent e →
     Outcome g time lit role p.link e input (by_row p.link (row_of p.link input)) (ticked_by input time p.ticked)
@@ -239,6 +239,10 @@ outcome_of g time lit role p e input st u =
     (subst (λ (r : Role). RowTells p.link r p.link.state input (row_of p.link input)) u.same_role (row_tells p.link input u.has_carrier b))
     (subst (λ (r : Role). RowFits r p.link.state p.link input (row_of p.link input)) u.same_role (row_fits p.link input b))
     (row_fails p.link input)
+
+-- a port that has rested
+resting_ready : (p : Port) → p.link.carrier ≡ true → rest_of p.link ≡ 0 → IsReady p
+resting_ready p lit r = record { awake = record { lit = lit; over = inr (no_quiet p.link r) }; free = inr (no_holdoff p.link r) }
 
 -- the master is given an input
 pub master_hears :
@@ -273,8 +277,8 @@ master_hears g first older lit input at0 me se h um us s p leaves turn may =
     (λ _ q idle sq.
     record {
       idle = idle;
-      master = record { lit = outcome_lit g ends.time lit Master ends.master.link me input (by_row ends.master.link row) (ticked_by input ends.time ends.master.ticked) (stamped ends.time (sent_by row) ends.master.sent) (sent_by row) out; over = inr q };
-      slave = record { lit = us.has_carrier; over = inr sq };
+      master = record { lit = outcome_lit g ends.time lit Master ends.master.link me input (by_row ends.master.link row) (ticked_by input ends.time ends.master.ticked) (stamped ends.time (sent_by row) ends.master.sent) (sent_by row) out; over = inr (no_quiet (by_row ends.master.link row) q) };
+      slave = resting_ready ends.slave us.has_carrier sq;
       now = refl;
     })
     turn s out in
@@ -316,12 +320,20 @@ slave_hears g first older lit input at0 me se h um us s p steady turn may =
     (λ _ q idle sq.
     record {
       idle = idle;
-      master = record { lit = um.has_carrier; over = inr q };
-      slave = record { lit = outcome_lit g ends.time lit Slave ends.slave.link se input next later (stamped ends.time (sent_by row) ends.slave.sent) (sent_by row) out; over = inr sq };
+      master = record { lit = um.has_carrier; over = inr (no_quiet ends.master.link q) };
+      slave =
+          record {
+            awake = record {
+              lit = outcome_lit g ends.time lit Slave ends.slave.link se input next later (stamped ends.time (sent_by row) ends.slave.sent) (sent_by row) out;
+              over = inr (no_quiet next sq);
+            };
+            free = inr (no_holdoff next sq);
+          };
       now = refl;
     })
     (λ is. record { locking = is; now = refl })
-    (λ suffix is off over idle. awake_quiet ends.master (steady.1 refl suffix is off (record { lit = us.has_carrier; over = inr over })) idle)
+    (λ suffix is off over idle.
+    none_left ends.master.link (awake_quiet ends.master (steady.1 refl suffix is off (resting_ready ends.slave us.has_carrier over)) idle) (um.free refl))
     turn s out) [
       | inl x ↦ coming x.me x.se x.master x.slave x.stage
       | inr on ↦ is_on on (outcome_role g ends.time lit Slave ends.slave.link se input next later (stamped ends.time (sent_by row) ends.slave.sent) (sent_by row) out) um.has_carrier

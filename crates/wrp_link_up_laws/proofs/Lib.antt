@@ -1,8 +1,11 @@
+pub mod Again
 pub mod Alone
+pub mod Awake
 pub mod Changes
 pub mod Exchanges
 pub mod Ports
 pub mod Proved
+pub mod Rest
 pub mod Stages
 pub mod Steps
 pub mod Sums

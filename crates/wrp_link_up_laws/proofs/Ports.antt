@@ -1,5 +1,5 @@
 -- What is kept of one port since the carriers came, and what an input makes of it.
-use Rattle.std.proofs.Common.{◌≡◌, ◌≢◌, ◌⊎◌, inl, inr, refl, sym, ap, ap₂, ◌∙◌, subst, subst₂, min, ℤ, ℕ, ◌+◌, ◌-◌, ◌*◌, ◌<◌, ◌≤◌, pos, Bool, true, false, is_some, List, [], Option, None, Some, arith, ◌+ℤ◌, ◌<ℤ◌, ◌≤ℤ◌}
+use Rattle.std.proofs.Common.{◌≡◌, ◌≢◌, ◌⊎◌, inl, inr, refl, sym, ap, ap₂, ◌∙◌, subst, subst₂, min, max, ℤ, ℕ, ◌+◌, ◌-◌, ◌*◌, ◌<◌, ◌≤◌, pos, Bool, true, false, is_some, List, [], Option, None, Some, arith, ◌+ℤ◌, ◌<ℤ◌, ◌≤ℤ◌}
 use Rattle.std.proofs.lemmas.Int.{ints}
 use Rattle.wrp_base.specs.declared.link.LinkState.{LinkState}
 use Rattle.wrp_base.specs.declared.link.LinkState.TheVariants.{Idle, Present, SLock, MLock, Locked, Calibration, Calibrated, RespCalib, LinkOn}
@@ -21,7 +21,7 @@ use Rattle.wrp_handshake.proofs.Parts.{stamped_in}
 use Rattle.wrp_handshake.proofs.RowFits.{RowFits}
 use Rattle.wrp_handshake.proofs.Stages.{Sends, SendsAll, FitsMove}
 use Rattle.wrp_handshake.proofs.Times.{Calm, calm_tick, calm_over}
-use Rattle.wrp_link_up_laws.specs.Pace.{Pace, patience, LeavesCarrier}
+use Rattle.wrp_link_up_laws.specs.Pace.{Pace, patience, LeavesCarrier, rest_of}
 use Rattle.wrp_link_up_laws.proofs.Sums.{less_one, a_wait_less, last_late, fresh_late, one_left, tick_less, quiet_less, OnFor, on_tick, below, clash, le_self}
 use Rattle.wrp_link_up_laws.proofs.Tells.{MovesBy, NoTick, IsTick, StaysBy, RowTells}
 
@@ -45,7 +45,8 @@ pub record Given : Type 0 where
   -- how long the taker waits for more than a message, by the role of the giver, and for either
   pub slow : Role → ℕ
   pub slowest : ℕ
-  -- the longer of both quiet times, in ticks
+  -- the ticks of rest that each end has at first, and the longer of both
+  pub rest : Role → ℕ
   pub quiet : ℕ
 
 -- a CALIBRATED that overtook a CALIBRATE is sent again
@@ -56,7 +57,8 @@ SentAgain g role = ((g.set role).wait * g.pace.dmax ≡ g.slow role) × (g.pace.
 pub record Holds (g : Given) (role : Role) : Type 0 where
   pub wr : (g.set role).wr ≡ true
   pub outlives : 2 * g.life < ((g.set role).quiet - 1) * g.dmin
-  pub longer : (g.set role).quiet ≤ g.quiet
+  pub rests : 2 * g.life < (g.rest role - 1) * g.dmin
+  pub longer : g.rest role ≤ g.quiet
   pub slower : g.slow role ≤ g.slowest
   pub mode : SentAgain g role ⊎ (g.in_turn ≡ true)
   pub waits_last : g.slowest + g.pace.dmax + 2 * g.pace.delay + g.dmin < patience (g.set role).wait (g.set role).retries * g.dmin
@@ -111,7 +113,7 @@ sends_reached Master LinkOn WR_MODE_ON h = omega arith
 sends_reached _ _ _ h = absurd h
 
 -- each move reaches one state more
-moves_reach : (l : LinkAt) (role : Role) (from : LinkState) (input : LinkIn) (next : LinkState) (ms : List WrMsg) →
+pub moves_reach : (l : LinkAt) (role : Role) (from : LinkState) (input : LinkIn) (next : LinkState) (ms : List WrMsg) →
     MovesBy l role from input next ms → reached role from + 1 ≡ reached role next
 moves_reach l Slave Idle input next ms h = ap (λ s. reached Slave s) (sym h.1.0)
 moves_reach l Slave Present input next ms h = ap (λ s. reached Slave s) (sym h.1.0)
@@ -127,22 +129,36 @@ moves_reach l Master Calibrated input next ms h = ap (λ s. reached Master s) (s
 moves_reach l Master RespCalib input next ms h = ap (λ s. reached Master s) (sym h.1.0)
 moves_reach l _ _ input next ms h = absurd h
 
--- a port that moves on from IDLE is past its quiet time
+-- rest, from quiet time and holdoff
+
+pub none_left : (l : LinkAt) → l.quiet ≡ 0 → l.holdoff ≡ 0 → rest_of l ≡ 0
+none_left l q h = omega (arith, q, h)
+
+pub no_quiet : (l : LinkAt) → rest_of l ≡ 0 → l.quiet ≡ 0
+no_quiet l r = omega (arith, r)
+
+pub no_holdoff : (l : LinkAt) → rest_of l ≡ 0 → l.holdoff ≡ 0
+no_holdoff l r = omega (arith, r)
+
+rest_less : (q h : ℕ) → max (q - 1) (h - 1) ≡ max q h - 1
+rest_less q h = omega arith
+
+-- a port that moves on from IDLE has rested
 moves_idle : (l : LinkAt) (role : Role) (from : LinkState) (input : LinkIn) (next : LinkState) (ms : List WrMsg) →
-    from ≡ Idle → MovesBy l role from input next ms → l.quiet ≡ 0
-moves_idle l Slave Idle input next ms e h = h.1.1.1
-moves_idle l Master Idle input next ms e h = h.1.1.1
-moves_idle l Slave Present input next ms e h = cc
-moves_idle l Slave SLock input next ms e h = cc
-moves_idle l Slave Locked input next ms e h = cc
-moves_idle l Slave RespCalib input next ms e h = cc
-moves_idle l Slave Calibration input next ms e h = cc
-moves_idle l Slave Calibrated input next ms e h = cc
-moves_idle l Master MLock input next ms e h = cc
-moves_idle l Master Calibration input next ms e h = cc
-moves_idle l Master Calibrated input next ms e h = cc
-moves_idle l Master RespCalib input next ms e h = cc
-moves_idle l _ _ input next ms e h = absurd h
+    from ≡ Idle → MovesBy l role from input next ms → (role ≡ Master → l.holdoff ≡ 0) → rest_of l ≡ 0
+moves_idle l Slave Idle input next ms e h free = none_left l h.1.1.1.0 h.1.1.1.1
+moves_idle l Master Idle input next ms e h free = none_left l h.1.1.1 (free refl)
+moves_idle l Slave Present input next ms e h free = cc
+moves_idle l Slave SLock input next ms e h free = cc
+moves_idle l Slave Locked input next ms e h free = cc
+moves_idle l Slave RespCalib input next ms e h free = cc
+moves_idle l Slave Calibration input next ms e h free = cc
+moves_idle l Slave Calibrated input next ms e h free = cc
+moves_idle l Master MLock input next ms e h free = cc
+moves_idle l Master Calibration input next ms e h free = cc
+moves_idle l Master Calibrated input next ms e h free = cc
+moves_idle l Master RespCalib input next ms e h free = cc
+moves_idle l _ _ input next ms e h free = absurd h
 
 pub some_is : {a b : ℕ} → Some a ≡ Some b → a ≡ b
 some_is e = cc
@@ -180,12 +196,12 @@ pub record PortUp (g : Given) (time lit : ℤ) (role : Role) (l : LinkAt) (tick 
   pub same_set : l.set ≡ (g.set role)
   pub same_role : l.role ≡ role
   pub belongs : Belongs role l.state
-  pub free : l.holdoff ≡ 0
+  pub free : role ≡ Master → l.holdoff ≡ 0
   pub past : e ≤ℤ time
   pub ticked : tick ≤ℤ time
   pub lit_past : lit ≤ℤ time
-  pub calm : l.state ≡ Idle → Calm g.dmin (g.set role).quiet l.quiet tick lit
-  pub soon : l.state ≡ Idle → (l.quiet ≡ 0) ⊎ ((tick +ℤ pos (l.quiet * g.pace.dmax)) ≤ℤ (lit +ℤ pos ((g.set role).quiet * g.pace.dmax)))
+  pub calm : l.state ≡ Idle → Calm g.dmin (g.rest role) (rest_of l) tick lit
+  pub soon : l.state ≡ Idle → (rest_of l ≡ 0) ⊎ ((tick +ℤ pos (rest_of l * g.pace.dmax)) ≤ℤ (lit +ℤ pos (g.rest role * g.pace.dmax)))
   pub awake : l.state ≢ Idle → (lit +ℤ pos (2 * g.life)) <ℤ e
   pub timer : (n : ℕ) → wait_of (g.set role) l.state ≡ Some n → Runs g role n l.waiting e tick
   pub at_once : l.state ≡ Calibration → tick ≤ℤ e
@@ -202,7 +218,7 @@ pub record Ended (g : Given) (time : ℤ) (l : LinkAt) (e : ℤ) (n : ℕ) (ms :
 pub data Outcome (g : Given) (time lit : ℤ) (role : Role) (l : LinkAt) (e : ℤ) (input : LinkIn) (next : LinkAt) (tick : ℤ) (sent : List Sending) (ms : List WrMsg) : Type 0 where
   -- it stays
   stays :
-      PortUp g time lit role next tick sent e → next.state ≡ l.state → StaysBy l role l.state input → (l.quiet ≡ 0 → next.quiet ≡ 0) → SendsAll role l.state ms →
+      PortUp g time lit role next tick sent e → next.state ≡ l.state → StaysBy l role l.state input → (rest_of l ≡ 0 → rest_of next ≡ 0) → SendsAll role l.state ms →
       ((n : ℕ) → wait_of (g.set role) l.state ≡ Some n → IsFresh g role l → IsFresh g role next ⊎ Ended g time l e n ms) →
       Outcome g time lit role l e input next tick sent ms
   -- it moves on
@@ -361,8 +377,8 @@ moved_up g time lit role l tick later sent e input next ms deltas h u m f past =
       awake =
           λ _. elim (idle_or_out l.state) [
             | inl idle ↦
-                calm_over g.life g.dmin (g.set role).quiet tick time lit h.outlives u.ticked
-                (subst (λ (q : ℕ). Calm g.dmin (g.set role).quiet q tick lit) (moves_idle l role l.state input next ms idle m) (u.calm idle))
+                calm_over g.life g.dmin (g.rest role) tick time lit h.rests u.ticked
+                (subst (λ (q : ℕ). Calm g.dmin (g.rest role) q tick lit) (moves_idle l role l.state input next ms idle m u.free) (u.calm idle))
             | inr awake ↦ below lit e time (2 * g.life) (u.awake awake) u.past
           ];
       timer =
@@ -380,7 +396,7 @@ moved_up g time lit role l tick later sent e input next ms deltas h u m f past =
 counted_up :
     (g : Given) (time lit : ℤ) (role : Role) (l : LinkAt) (s : LinkState) (tick : ℤ) (sent : List Sending) (e : ℤ) →
     PortUp g time lit role l tick sent e → l.state ≡ s → (s ≡ Idle) ⊎ (s ≡ LinkOn) → (tick +ℤ pos g.dmin) ≤ℤ time → time ≤ℤ (tick +ℤ pos g.pace.dmax) →
-    PortUp g time lit role (counted l s) time sent e × (((counted l s).state ≡ l.state) × (l.quiet ≡ 0 → (counted l s).quiet ≡ 0))
+    PortUp g time lit role (counted l s) time sent e × (((counted l s).state ≡ l.state) × (rest_of l ≡ 0 → rest_of (counted l s) ≡ 0))
 counted_up g time lit role l Idle tick sent e u is which early due = (
   record {
     has_carrier = u.has_carrier;
@@ -388,19 +404,23 @@ counted_up g time lit role l Idle tick sent e u is which early due = (
     same_set = u.same_set;
     same_role = u.same_role;
     belongs = u.belongs;
-    free = ap (λ n. n - 1) u.free;
+    free = λ m. ap (λ n. n - 1) (u.free m);
     past = u.past;
     ticked = le_self time;
     lit_past = u.lit_past;
-    calm = λ i. calm_tick g.dmin (g.set role).quiet l.quiet tick time lit early u.lit_past (u.calm i);
-    soon = λ i. quiet_less g.pace.dmax ((g.set role).quiet * g.pace.dmax) l.quiet tick lit time (u.soon i) due;
+    calm = λ i.
+        subst (λ (q : ℕ). Calm g.dmin (g.rest role) q time lit) (sym (rest_less l.quiet l.holdoff))
+        (calm_tick g.dmin (g.rest role) (rest_of l) tick time lit early u.lit_past (u.calm i));
+    soon = λ i.
+        subst (λ (q : ℕ). (q ≡ 0) ⊎ ((time +ℤ pos (q * g.pace.dmax)) ≤ℤ (lit +ℤ pos (g.rest role * g.pace.dmax)))) (sym (rest_less l.quiet l.holdoff))
+        (quiet_less g.pace.dmax (g.rest role * g.pace.dmax) (rest_of l) tick lit time (u.soon i) due);
     awake = u.awake;
     timer = λ n w. absurd ((not_timed_idle (g.set role) l.state n w).0 is);
     at_once = λ c. (let x : Idle ≡ Calibration = sym is ∙ c in cc);
     on = λ c. (let x : Idle ≡ LinkOn = sym is ∙ c in cc);
     sents = u.sents;
   },
-  (refl, λ q. ap (λ n. n - 1) q),
+  (refl, λ q. rest_less l.quiet l.holdoff ∙ ap (λ n. n - 1) q),
 )
 counted_up g time lit role l LinkOn tick sent e u is which early due = (
   record {
@@ -561,7 +581,7 @@ row_up g time lit role l tick sent e input Fails st u t f b =
 row_up g time lit role l tick sent e input Waits st u t f b =
     waits_up g time lit role l tick sent e input t.1.0.0 st u t.0.0 t.0.1 t.1.0.1 t.1.1
 row_up g time lit role l tick sent e input Counts st u t f b =
-    let c : PortUp g time lit role (counted l l.state) time sent e × (((counted l l.state).state ≡ l.state) × (l.quiet ≡ 0 → (counted l l.state).quiet ≡ 0)) =
+    let c : PortUp g time lit role (counted l l.state) time sent e × (((counted l l.state).state ≡ l.state) × (rest_of l ≡ 0 → rest_of (counted l l.state) ≡ 0)) =
     counted_up g time lit role l l.state tick sent e u refl t.1 (st.early t.0.0) st.due in
     stays (subst (λ (x : ℤ). PortUp g time lit role (counted l l.state) x sent e) (a_tick input time tick t.0.0) c.0) c.1.0 t.0.1 c.1.1 tt
     (λ n is fresh. elim t.1 [ inl i ↦ absurd ((not_timed_idle (g.set role) l.state n is).0 i) | inr i ↦ absurd ((not_timed_idle (g.set role) l.state n is).1.1 i) ])

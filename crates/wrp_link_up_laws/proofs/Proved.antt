@@ -24,7 +24,7 @@ use Rattle.wrp_link_up_laws.proofs.Sums.{le_self, clash}
 use Rattle.wrp_link_up_laws.proofs.Tells.{row_tells}
 
 -- each change
-changed_stands :
+pub changed_stands :
     (g : Given) (first : BothPorts) (older : List Change) (lit : ℤ) (change : Change) → BothHold g → EndsKeep g.life g.dmin (ends_after first older) →
     MayCome g.life g.dmin (ends_after first older) change → IsSteady (ends_after first older) change → IsPrompt g.pace first older → (g.in_turn ≡ true → InTurn first older change) →
     Standing g first older lit (ends_after first older) → Standing g first (change ∷ older) lit (changed (ends_after first older) change)
@@ -47,11 +47,11 @@ changed_stands g first older lit (Hears Slave input at) h k may steady p turn (i
 changed_stands g first older lit (Starts role) h k may steady p turn s = absurd steady
 changed_stands g first older lit (Lights of_master of_slave) h k may steady p turn s = absurd steady
 
-prompt_at : (pace : Pace) (first : BothPorts) (changes : List Change) → IsGood pace first changes → IsPrompt pace first changes
+pub prompt_at : (pace : Pace) (first : BothPorts) (changes : List Change) → IsGood pace first changes → IsPrompt pace first changes
 prompt_at pace first [] good = good
 prompt_at pace first (change ∷ older) good = good.1.0
 
-all_stand :
+pub all_stand :
     (g : Given) (first : BothPorts) (lit : ℤ) (since : List Change) → BothHold g → EndsKeep g.life g.dmin first → AllMayCome g.life g.dmin first since →
     IsGood g.pace first since → (g.in_turn ≡ true → AllInTurn first since) → Standing g first [] lit first → Standing g first since lit (ends_after first since)
 all_stand g first lit [] h k come good turn s = s
@@ -60,9 +60,9 @@ all_stand g first lit (change ∷ older) h k come good turn s =
     (all_stand g first lit older h k come.1 good.1.1 (λ e. (turn e).1) s)
 
 -- both ends keep their counts
-record BothSet (g : Given) (ends : BothPorts) : Type 0 where
-  master : ends.master.link.set ≡ g.set Master
-  slave : ends.slave.link.set ≡ g.set Slave
+pub record BothSet (g : Given) (ends : BothPorts) : Type 0 where
+  pub master : ends.master.link.set ≡ g.set Master
+  pub slave : ends.slave.link.set ≡ g.set Slave
 
 set_changed : (g : Given) (ends : BothPorts) (change : Change) → BothSet g ends → BothSet g (changed ends change)
 set_changed g ends (Passes dt) b = record { master = b.master; slave = b.slave }
@@ -72,28 +72,35 @@ set_changed g ends (Starts Master) b = record { master = b.master; slave = b.sla
 set_changed g ends (Starts Slave) b = record { master = b.master; slave = b.slave }
 set_changed g ends (Lights of_master of_slave) b = record { master = b.master; slave = b.slave }
 
-all_set : (g : Given) (ends : BothPorts) (changes : List Change) → BothSet g ends → BothSet g (ends_after ends changes)
+pub all_set : (g : Given) (ends : BothPorts) (changes : List Change) → BothSet g ends → BothSet g (ends_after ends changes)
 all_set g ends [] b = b
 all_set g ends (change ∷ older) b = set_changed g (ends_after ends older) change (all_set g ends older b)
 
+no_holdoff_yet : (q : ℕ) → max q 0 ≡ q
+no_holdoff_yet q = omega arith
+
+as_late : (ticked time : ℤ) (n : ℕ) → ticked ≤ℤ time → (ticked +ℤ pos n) ≤ℤ (time +ℤ pos n)
+as_late ticked time n h = omega (arith, ints, h)
+
 -- a port as the carrier comes
 lit_up :
-    (g : Given) (time : ℤ) (role : Role) (p : Port) (own : Module) → p.link.role ≡ role → p.link.set ≡ g.set role → p.ticked ≤ℤ time →
+    (g : Given) (time : ℤ) (role : Role) (p : Port) (own : Module) → g.rest role ≡ (g.set role).quiet → p.link.role ≡ role → p.link.set ≡ g.set role → p.ticked ≤ℤ time →
     ((f : Sending) → IsAmong f p.sent → f.1 ≤ℤ time) → PortUp g time time role (with_carrier p.link (Some own)) p.ticked p.sent time
-lit_up g time role p own is_role is_set ticked sents =
+lit_up g time role p own rest is_role is_set ticked sents =
     record {
       has_carrier = refl;
       listed = refl;
       same_set = is_set;
       same_role = is_role;
       belongs = idle_belongs role;
-      free = refl;
+      free = λ _. refl;
       past = le_self time;
       ticked = ticked;
       lit_past = le_self time;
-      calm = λ _. inl (ap (λ s. s.quiet) is_set);
+      calm = λ _. inl (no_holdoff_yet p.link.set.quiet ∙ ap (λ s. s.quiet) is_set ∙ sym rest);
       soon =
-          λ _. inr (subst (λ (q : ℕ). (p.ticked +ℤ pos (p.link.set.quiet * g.pace.dmax)) ≤ℤ (time +ℤ pos (q * g.pace.dmax))) (ap (λ s. s.quiet) is_set) (omega (arith, ints, ticked)));
+          λ _. inr (subst (λ (q : ℕ). (p.ticked +ℤ pos (max p.link.set.quiet 0 * g.pace.dmax)) ≤ℤ (time +ℤ pos (q * g.pace.dmax)))
+          (no_holdoff_yet p.link.set.quiet ∙ ap (λ s. s.quiet) is_set ∙ sym rest) (as_late p.ticked time (max p.link.set.quiet 0 * g.pace.dmax) ticked));
       awake = λ out. absurd (out refl);
       timer = λ n is. absurd ((not_timed_idle (g.set role) Idle n is).0 refl);
       at_once = λ c. cc;
@@ -101,55 +108,57 @@ lit_up g time role p own is_role is_set ticked sents =
       sents = λ f i. (sents f i, inl (sents f i));
     }
 
-some_quiet : (life quiet dmin : ℕ) → 2 * life < (quiet - 1) * dmin → 1 ≤ quiet
+pub some_quiet : (life quiet dmin : ℕ) → 2 * life < (quiet - 1) * dmin → 1 ≤ quiet
 some_quiet life zero dmin h = absurd (omega (arith, h))
 some_quiet life (suc q) dmin h = omega arith
 
-lights_stand :
-    (g : Given) (before : BothPorts) (of_master of_slave : Module) → BothHold g → EndsKeep g.life g.dmin before → BothSet g before →
+pub lights_stand :
+    (g : Given) (before : BothPorts) (of_master of_slave : Module) → ((role : Role) → g.rest role ≡ (g.set role).quiet) → BothHold g → EndsKeep g.life g.dmin before → BothSet g before →
     Standing g (changed before (Lights (Some of_master) (Some of_slave))) [] before.time (changed before (Lights (Some of_master) (Some of_slave)))
-lights_stand g before of_master of_slave h k b =
+lights_stand g before of_master of_slave rest h k b =
     coming before.time before.time
-    (lit_up g before.time Master before.master of_master k.is_master b.master k.master.ticked (λ f i. (k.master.frames f i).past))
-    (lit_up g before.time Slave before.slave of_slave k.is_slave b.slave k.slave.ticked (λ f i. (k.slave.frames f i).past))
-    (resting refl refl (inl (subst (λ (s : LinkSet). 1 ≤ s.quiet) (sym b.master) (some_quiet g.life (g.set Master).quiet g.dmin (h Master).outlives))))
+    (lit_up g before.time Master before.master of_master (rest Master) k.is_master b.master k.master.ticked (λ f i. (k.master.frames f i).past))
+    (lit_up g before.time Slave before.slave of_slave (rest Slave) k.is_slave b.slave k.slave.ticked (λ f i. (k.slave.frames f i).past))
+    (resting refl refl
+    (inl (subst (λ (n : ℕ). 1 ≤ n) (sym (no_holdoff_yet before.master.link.set.quiet))
+    (subst (λ (s : LinkSet). 1 ≤ s.quiet) (sym b.master) (some_quiet g.life (g.set Master).quiet g.dmin (h Master).outlives)))))
 
 -- a run in two parts
-run_split : (ends : BothPorts) (since before : List Change) → ends_after ends (since ++ before) ≡ ends_after (ends_after ends before) since
+pub run_split : (ends : BothPorts) (since before : List Change) → ends_after ends (since ++ before) ≡ ends_after (ends_after ends before) since
 run_split ends [] before = refl
 run_split ends (change ∷ since) before = ap (λ (e : BothPorts). changed e change) (run_split ends since before)
 
-may_after : (life dmin : ℕ) (ends : BothPorts) (since before : List Change) → AllMayCome life dmin ends (since ++ before) → AllMayCome life dmin (ends_after ends before) since
+pub may_after : (life dmin : ℕ) (ends : BothPorts) (since before : List Change) → AllMayCome life dmin ends (since ++ before) → AllMayCome life dmin (ends_after ends before) since
 may_after life dmin ends [] before h = tt
 may_after life dmin ends (change ∷ since) before h =
     (subst (λ (e : BothPorts). MayCome life dmin e change) (run_split ends since before) h.0, may_after life dmin ends since before h.1)
 
-may_before : (life dmin : ℕ) (ends : BothPorts) (since before : List Change) → AllMayCome life dmin ends (since ++ before) → AllMayCome life dmin ends before
+pub may_before : (life dmin : ℕ) (ends : BothPorts) (since before : List Change) → AllMayCome life dmin ends (since ++ before) → AllMayCome life dmin ends before
 may_before life dmin ends [] before h = h
 may_before life dmin ends (change ∷ since) before h = may_before life dmin ends since before h.1
 
-wait_from : (delay dmin wait : ℕ) → delay + dmin < wait * dmin → 1 ≤ wait
+pub wait_from : (delay dmin wait : ℕ) → delay + dmin < wait * dmin → 1 ≤ wait
 wait_from delay dmin zero h = absurd (omega (arith, h))
 wait_from delay dmin (suc n) h = omega arith
 
 zero_times : (r : ℕ) → 0 * r ≡ 0
 zero_times r = omega arith
 
-lock_from : (x dmin wait retries : ℕ) → x + dmin < (wait + wait * retries) * dmin → 1 ≤ wait
+pub lock_from : (x dmin wait retries : ℕ) → x + dmin < (wait + wait * retries) * dmin → 1 ≤ wait
 lock_from x dmin zero retries h = absurd (omega (arith, h, zero_times retries))
 lock_from x dmin (suc n) retries h = omega arith
 
-in_all : (q a k d m x y : ℕ) → q * m + a + 3 * d + k + m + (x * m + d) + m + (y * m + d) + d ≡ (q + x + y + 2) * m + a + k + 6 * d
+pub in_all : (q a k d m x y : ℕ) → q * m + a + 3 * d + k + m + (x * m + d) + m + (y * m + d) + d ≡ (q + x + y + 2) * m + a + k + 6 * d
 in_all q a k d m x y = omega arith
 
-all_in_turn : (q a k d m : ℕ) → q * m + a + 3 * d + k + m + (0 + d) + m + (0 + d) + d ≡ (q + 2) * m + a + k + 6 * d
+pub all_in_turn : (q a k d m : ℕ) → q * m + a + 3 * d + k + m + (0 + d) + m + (0 + d) + d ≡ (q + 2) * m + a + k + 6 * d
 all_in_turn q a k d m = omega arith
 
 one_times : (n d : ℕ) → (n + 1) * d ≡ n * d + d
 one_times n d = omega arith
 
 -- by the last stage's time
-up_by :
+pub up_by :
     (g : Given) (first : BothPorts) (since : List Change) (lit : ℤ) → BothHold g → IsGood g.pace first since → Standing g first since lit (ends_after first since) →
     (lit +ℤ pos (by_four g + g.pace.delay)) <ℤ (ends_after first since).time →
     ((ends_after first since).slave.link.state ≡ LinkOn) × ((ends_after first since).master.link.carrier ≡ true)
@@ -176,6 +185,7 @@ given_by life dmin pace run in_turn slow slowest =
       in_turn = in_turn;
       slow = slow;
       slowest = slowest;
+      rest = λ role. (set_by run role).quiet;
       quiet = max run.of_master.quiet run.of_slave.quiet;
     }
 
@@ -192,7 +202,7 @@ is_up life dmin pace run turns slow slowest h served turn late =
     let sets : BothSet g (dark run) = all_set g (new run) run.before (record { master = refl; slave = refl }) in
     let stands : Standing g (lit run) run.since (dark run).time (ends_after (lit run) run.since) =
     all_stand g (lit run) (dark run).time run.since h kept_lit (may_after life dmin (new run) run.since (lights run ∷ run.before) served.come) served.good turn
-    (lights_stand g (dark run) run.at_master run.at_slave h kept sets) in
+    (lights_stand g (dark run) run.at_master run.at_slave (λ role. refl) h kept sets) in
     let is : last run ≡ ends_after (lit run) run.since = run_split (new run) run.since (lights run ∷ run.before) in
     let came : ((ends_after (lit run) run.since).slave.link.state ≡ LinkOn) × ((ends_after (lit run) run.since).master.link.carrier ≡ true) =
     up_by g (lit run) run.since (dark run).time h served.good stands (subst (λ (e : BothPorts). ((dark run).time +ℤ pos (by_four g + pace.delay)) <ℤ e.time) is late) in
@@ -219,7 +229,7 @@ slow_by pace run Slave = run.of_slave.wait * pace.dmax
 abbrev no_wait : Role → ℕ
 no_wait role = 0
 
-waits_by : (a b : ℕ) (pace : Pace) (dmin all : ℕ) → a ≡ b → (a + 1) * pace.dmax + 2 * pace.delay + dmin < all → b * pace.dmax + pace.dmax + 2 * pace.delay + dmin < all
+pub waits_by : (a b : ℕ) (pace : Pace) (dmin all : ℕ) → a ≡ b → (a + 1) * pace.dmax + 2 * pace.delay + dmin < all → b * pace.dmax + pace.dmax + 2 * pace.delay + dmin < all
 waits_by a b pace dmin all e h =
     subst (λ (n : ℕ). n * pace.dmax + pace.dmax + 2 * pace.delay + dmin < all) e
     (subst (λ (n : ℕ). n + 2 * pace.delay + dmin < all) (one_times a pace.dmax) h)
@@ -232,6 +242,7 @@ both_hold life dmin pace run served both Master =
     record {
       wr = served.master_wr;
       outlives = served.master_quiet;
+      rests = served.master_quiet;
       longer = le-max_left run.of_master.quiet run.of_slave.quiet;
       slower = mul-le-mul_right pace.dmax (le-max_left run.of_master.wait run.of_slave.wait);
       mode = inl (refl, both.master.retry);
@@ -244,6 +255,7 @@ both_hold life dmin pace run served both Slave =
     record {
       wr = served.slave_wr;
       outlives = served.slave_quiet;
+      rests = served.slave_quiet;
       longer = le-max_right run.of_master.quiet run.of_slave.quiet;
       slower = mul-le-mul_right pace.dmax (le-max_right run.of_master.wait run.of_slave.wait);
       mode = inl (refl, both.slave.retry);
@@ -261,6 +273,7 @@ both_hold_in_turn life dmin pace run served both Master =
     record {
       wr = served.master_wr;
       outlives = served.master_quiet;
+      rests = served.master_quiet;
       longer = le-max_left run.of_master.quiet run.of_slave.quiet;
       slower = omega arith;
       mode = inr refl;
@@ -273,6 +286,7 @@ both_hold_in_turn life dmin pace run served both Slave =
     record {
       wr = served.slave_wr;
       outlives = served.slave_quiet;
+      rests = served.slave_quiet;
       longer = le-max_right run.of_master.quiet run.of_slave.quiet;
       slower = omega arith;
       mode = inr refl;

@@ -11,7 +11,7 @@ use Rattle.wrp_base.specs.Network.{other_of}
 use Rattle.wrp_link.specs.LinkAt.{LinkAt, wait_of}
 use Rattle.wrp_link.specs.Rows.{own_calibrate}
 use Rattle.wrp_handshake.specs.Ends.{Sending, BothPorts, Change, IsAmong}
-use Rattle.wrp_link_up_laws.specs.Pace.{patience, IsUnheard, IsUnoffered, IsUnlocked}
+use Rattle.wrp_link_up_laws.specs.Pace.{patience, rest_of, IsUnheard, IsUnoffered, IsUnlocked}
 use Rattle.wrp_link_up_laws.proofs.Ports.{Given, Holds, SentAgain, IsFresh, some_is}
 
 -- how long a giver of this role, in CALIBRATED, lets its taker wait: a first wait, and a message
@@ -58,15 +58,15 @@ pub data Exchange (g : Given) (first : BothPorts) (changes : List Change) (taker
 -- both ends are awake, and wait for an Announce
 abbrev pub BothWait : Given → BothPorts → List Change → ℤ → LinkAt → LinkAt → Type 0
 BothWait g first changes lit ml sl =
-    (ml.quiet ≡ 0) × ((sl.quiet ≡ 0) × ((at : ℤ) × ((at ≤ℤ (lit +ℤ pos (g.quiet * g.pace.dmax))) × IsUnoffered first changes at)))
+    (rest_of ml ≡ 0) × ((rest_of sl ≡ 0) × ((at : ℤ) × ((at ≤ℤ (lit +ℤ pos (g.quiet * g.pace.dmax))) × IsUnoffered first changes at)))
 
 -- where a link stands that comes up
 pub data Stage (g : Given) (first : BothPorts) (changes : List Change) (lit : ℤ) (ml sl : LinkAt) (me se : ℤ) (sent : List Sending) : Type 0 where
   resting :
-      ml.state ≡ Idle → sl.state ≡ Idle → (1 ≤ ml.quiet) ⊎ ((1 ≤ sl.quiet) ⊎ BothWait g first changes lit ml sl) →
+      ml.state ≡ Idle → sl.state ≡ Idle → (1 ≤ rest_of ml) ⊎ ((1 ≤ rest_of sl) ⊎ BothWait g first changes lit ml sl) →
       Stage g first changes lit ml sl me se sent
   offered :
-      ml.state ≡ Idle → ml.quiet ≡ 0 → sl.state ≡ Present → se ≤ℤ (lit +ℤ pos (by_one g)) → IsUnheard first Master SLAVE_PRESENT changes se →
+      ml.state ≡ Idle → rest_of ml ≡ 0 → sl.state ≡ Present → se ≤ℤ (lit +ℤ pos (by_one g)) → IsUnheard first Master SLAVE_PRESENT changes se →
       Stage g first changes lit ml sl me se sent
   answered :
       ml.state ≡ MLock → sl.state ≡ Present → me ≤ℤ (se +ℤ pos g.pace.delay) → se ≤ℤ (lit +ℤ pos (by_one g)) → IsUnheard first Slave LOCK changes me →

@@ -14,8 +14,8 @@ use Rattle.wrp_link.specs.declared.interface.LinkIn.TheVariants.{Msg, Announce, 
 use Rattle.wrp_link.specs.LinkAt.{LinkAt}
 use Rattle.wrp_link.specs.Rows.{may_leave_idle, offers, own_calibrate}
 use Rattle.wrp_handshake.specs.Ends.{Sending, BothPorts, Change, Hears, IsAmong, stamped}
-use Rattle.wrp_link_up_laws.specs.Pace.{InTurn, IsUnheard, IsOffered, AreAwake}
-use Rattle.wrp_link_up_laws.proofs.Ports.{Given, Holds, BothHold, PortUp, Outcome, stays, moves, reached, told_from}
+use Rattle.wrp_link_up_laws.specs.Pace.{InTurn, IsUnheard, IsOffered, AreAwake, rest_of}
+use Rattle.wrp_link_up_laws.proofs.Ports.{Given, Holds, BothHold, PortUp, Outcome, stays, moves, reached, told_from, no_holdoff, no_quiet, none_left}
 use Rattle.wrp_link_up_laws.proofs.Sums.{quiet_soon}
 use Rattle.wrp_link_up_laws.proofs.Tells.{Turns, MovesBy}
 use Rattle.wrp_handshake.proofs.Parts.{stamped_in}
@@ -84,14 +84,14 @@ exchange_by g first older taker time lit gl rl tick sent ge re slack by z u due 
     taken_by ge lit time by g.pace.dmax (a_wait g (other_of taker)) z b
     (exchange_soon g first older taker time tick gl ge hears (first_wait g time lit (other_of taker) gl tick sent ge u gs due) which) le
 
--- quiet time is over by the longer of both
+-- rest is over by the longer of both
 quiet_by :
-    (g : Given) (role : Role) (l : LinkAt) (tick lit time : ℤ) → Holds g role → 1 ≤ l.quiet →
-    (l.quiet ≡ 0) ⊎ ((tick +ℤ pos (l.quiet * g.pace.dmax)) ≤ℤ (lit +ℤ pos ((g.set role).quiet * g.pace.dmax))) → time ≤ℤ (tick +ℤ pos g.pace.dmax) →
+    (g : Given) (role : Role) (l : LinkAt) (tick lit time : ℤ) → Holds g role → 1 ≤ rest_of l →
+    (rest_of l ≡ 0) ⊎ ((tick +ℤ pos (rest_of l * g.pace.dmax)) ≤ℤ (lit +ℤ pos (g.rest role * g.pace.dmax))) → time ≤ℤ (tick +ℤ pos g.pace.dmax) →
     time ≤ℤ (lit +ℤ pos (g.quiet * g.pace.dmax))
 quiet_by g role l tick lit time h some soon due =
-    soon_y lit time ((g.set role).quiet * g.pace.dmax) (g.quiet * g.pace.dmax)
-    (quiet_soon g.pace.dmax ((g.set role).quiet * g.pace.dmax) l.quiet tick lit time some soon due) (mul-le-mul_right g.pace.dmax h.longer)
+    soon_y lit time (g.rest role * g.pace.dmax) (g.quiet * g.pace.dmax)
+    (quiet_soon g.pace.dmax (g.rest role * g.pace.dmax) (rest_of l) tick lit time some soon due) (mul-le-mul_right g.pace.dmax h.longer)
 
 -- by when a link that is not up stands at the latest
 pub all_soon :
@@ -144,16 +144,16 @@ zero_or_some (suc n) = inr (omega arith)
 -- what two resting ends wait for, once a change came
 still_rest :
     (g : Given) (first : BothPorts) (older : List Change) (change : Change) (time lit : ℤ) (ml sl ml' sl' : LinkAt) →
-    ((1 ≤ ml.quiet) → time ≤ℤ (lit +ℤ pos (g.quiet * g.pace.dmax))) → ((1 ≤ sl.quiet) → time ≤ℤ (lit +ℤ pos (g.quiet * g.pace.dmax))) →
+    ((1 ≤ rest_of ml) → time ≤ℤ (lit +ℤ pos (g.quiet * g.pace.dmax))) → ((1 ≤ rest_of sl) → time ≤ℤ (lit +ℤ pos (g.quiet * g.pace.dmax))) →
     (BothWait g first older lit ml sl → IsOffered change → ⊥) →
-    (ml'.quiet ≡ 0 → sl'.quiet ≡ 0 → AreAwake first (change ∷ older) time) →
-    (1 ≤ ml.quiet) ⊎ ((1 ≤ sl.quiet) ⊎ BothWait g first older lit ml sl) →
-    (1 ≤ ml'.quiet) ⊎ ((1 ≤ sl'.quiet) ⊎ BothWait g first (change ∷ older) lit ml' sl')
+    (rest_of ml' ≡ 0 → rest_of sl' ≡ 0 → AreAwake first (change ∷ older) time) →
+    (1 ≤ rest_of ml) ⊎ ((1 ≤ rest_of sl) ⊎ BothWait g first older lit ml sl) →
+    (1 ≤ rest_of ml') ⊎ ((1 ≤ rest_of sl') ⊎ BothWait g first (change ∷ older) lit ml' sl')
 still_rest g first older change time lit ml sl ml' sl' ms ss unmet begins which =
-    elim (zero_or_some ml'.quiet) [
+    elim (zero_or_some (rest_of ml')) [
       | inr some ↦ inl some
       | inl mz ↦
-          elim (zero_or_some sl'.quiet) [
+          elim (zero_or_some (rest_of sl')) [
             | inr some ↦ inr (inl some)
             | inl sz ↦
                 inr (inr (
@@ -169,6 +169,9 @@ still_rest g first older change time lit ml sl ml' sl' ms ss unmet begins which 
           ]
     ]
 
+some_rest : (n : ℕ) → 1 ≤ n → n ≡ 0 → ⊥
+some_rest n some none = omega (arith, some, none)
+
 not_both_roles : Master ≡ Slave → ⊥
 not_both_roles e = cc
 
@@ -179,17 +182,17 @@ said_too_far : (role : Role) (l : LinkAt) (s : LinkState) (n : ℕ) → l.state 
 said_too_far role l s n is h = subst (λ (x : LinkState). n ≤ reached role x) is h
 
 present_turns : (g : Given) (time lit : ℤ) (ml : LinkAt) (tick : ℤ) (sent : List Sending) (e : ℤ) (input : LinkIn) →
-    Holds g Master → PortUp g time lit Master ml tick sent e → ml.state ≡ Idle → ml.quiet ≡ 0 → input ≡ Msg SLAVE_PRESENT → Turns ml Master ml.state input
+    Holds g Master → PortUp g time lit Master ml tick sent e → ml.state ≡ Idle → rest_of ml ≡ 0 → input ≡ Msg SLAVE_PRESENT → Turns ml Master ml.state input
 present_turns g time lit ml tick sent e input h u is q i =
     let wr : ml.set.wr ≡ true = ap (λ s. s.wr) u.same_set ∙ h.wr in
-    let may : may_leave_idle ml ≡ true = rw (q, u.listed, wr) refl in
+    let may : may_leave_idle ml ≡ true = rw (no_quiet ml q, u.listed, wr) refl in
     subst₂ (λ (x : LinkState) (y : LinkIn). Turns ml Master x y) (sym is) (sym i) may
 
 offer_turns : (g : Given) (time lit : ℤ) (sl : LinkAt) (tick : ℤ) (sent : List Sending) (e : ℤ) (input : LinkIn) (suffix : Option ℕ) →
-    Holds g Slave → PortUp g time lit Slave sl tick sent e → sl.state ≡ Idle → sl.quiet ≡ 0 → input ≡ Announce suffix → offers suffix ≡ true → Turns sl Slave sl.state input
+    Holds g Slave → PortUp g time lit Slave sl tick sent e → sl.state ≡ Idle → rest_of sl ≡ 0 → input ≡ Announce suffix → offers suffix ≡ true → Turns sl Slave sl.state input
 offer_turns g time lit sl tick sent e input suffix h u is q i off =
     let wr : sl.set.wr ≡ true = ap (λ s. s.wr) u.same_set ∙ h.wr in
-    let may : offers suffix && ((sl.holdoff == 0) && may_leave_idle sl) ≡ true = rw (off, u.free, q, u.listed, wr) refl in
+    let may : offers suffix && ((sl.holdoff == 0) && may_leave_idle sl) ≡ true = rw (off, no_holdoff sl q, no_quiet sl q, u.listed, wr) refl in
     subst₂ (λ (x : LinkState) (y : LinkIn). Turns sl Slave x y) (sym is) (sym i) may
 
 turns_at : (l : LinkAt) (role : Role) (s : LinkState) (input told : LinkIn) → l.state ≡ s → input ≡ told → Turns l role s told → Turns l role l.state input
@@ -202,7 +205,7 @@ one_said m ms time is = subst (λ (xs : List WrMsg). IsAmong (m, time) (stamped 
 moved_from : (l : LinkAt) (role : Role) (s : LinkState) (input : LinkIn) (to : LinkState) (ms : List WrMsg) → l.state ≡ s → MovesBy l role l.state input to ms → MovesBy l role s input to ms
 moved_from l role s input to ms is m = subst (λ (x : LinkState). MovesBy l role x input to ms) is m
 
-in_state : (l : LinkAt) (s : LinkState) → l.state ≡ s → s ≢ Idle → l.state ≡ Idle → l.quiet ≡ 0
+in_state : (l : LinkAt) (s : LinkState) → l.state ≡ s → s ≢ Idle → l.state ≡ Idle → rest_of l ≡ 0
 in_state l s is out idle = absurd (out (sym is ∙ idle))
 
 before_out : (taker : Role) (l : LinkAt) → l.state ≡ before_calibrate taker → l.state ≢ Idle
@@ -225,9 +228,9 @@ exchange_out g first older taker gl rl ge re slack by (waits gs rs a b which) = 
 pub master_steps :
     (g : Given) (first : BothPorts) (older : List Change) (time lit : ℤ) (ml sl next : LinkAt) (mtick stick later : ℤ) (msent ssent more : List Sending) (me se : ℤ) (input : LinkIn) (at0 : ℤ) (ms : List WrMsg) →
     BothHold g → PortUp g time lit Master ml mtick msent me → PortUp g time lit Slave sl stick ssent se → Prompt g first older time mtick stick →
-    ((ml.state ≡ Idle → ml.quiet ≡ 0) → (m : WrMsg) → input ≡ Msg m → told_from Slave m ≤ reached Slave sl.state) →
+    ((ml.state ≡ Idle → rest_of ml ≡ 0) → (m : WrMsg) → input ≡ Msg m → told_from Slave m ≤ reached Slave sl.state) →
     ((m : WrMsg) → IsAmong (m, time) (stamped time ms []) → IsUnheard first Slave m (Hears Master input at0 ∷ older) time) →
-    (next.state ≡ Idle → next.quiet ≡ 0 → sl.state ≡ Idle → sl.quiet ≡ 0 → AreAwake first (Hears Master input at0 ∷ older) time) →
+    (next.state ≡ Idle → rest_of next ≡ 0 → sl.state ≡ Idle → rest_of sl ≡ 0 → AreAwake first (Hears Master input at0 ∷ older) time) →
     (g.in_turn ≡ true → InTurn first older (Hears Master input at0)) →
     Stage g first older lit ml sl me se ssent → Outcome g time lit Master ml me input next later more ms →
     Stepped g first (Hears Master input at0 ∷ older) time lit next sl later stick more ssent
@@ -246,7 +249,7 @@ master_steps g first older time lit ml sl next mtick stick later msent ssent mor
     }
 master_steps g first older time lit ml sl next mtick stick later msent ssent more me se input at0 ms h um us p told says begins turn (resting mi si w) (moves to u same m fresh) =
     let mv : MovesBy ml Master Idle input to ms = moved_from ml Master Idle input to ms mi m in
-    absurd (slave_idle_said sl si (told (λ _. mv.1.1.1) SLAVE_PRESENT mv.0))
+    absurd (slave_idle_said sl si (told (λ _. none_left ml mv.1.1.1 (um.free refl)) SLAVE_PRESENT mv.0))
 master_steps g first older time lit ml sl next mtick stick later msent ssent more me se input at0 ms h um us p told says begins turn (offered mi qz si a o) (stays u same firm q all fresh) =
     record {
       me = me;
@@ -330,11 +333,11 @@ slave_no_present WR_MODE_ON s e = s
 pub slave_steps :
     (g : Given) (first : BothPorts) (older : List Change) (time lit : ℤ) (ml sl next : LinkAt) (mtick stick later : ℤ) (msent ssent : List Sending) (me se : ℤ) (input : LinkIn) (at0 : ℤ) (ms : List WrMsg) →
     BothHold g → PortUp g time lit Master ml mtick msent me → PortUp g time lit Slave sl stick ssent se → Prompt g first older time mtick stick →
-    ((sl.state ≡ Idle → sl.quiet ≡ 0) → (m : WrMsg) → input ≡ Msg m → told_from Master m ≤ reached Master ml.state) →
+    ((sl.state ≡ Idle → rest_of sl ≡ 0) → (m : WrMsg) → input ≡ Msg m → told_from Master m ≤ reached Master ml.state) →
     ((m : WrMsg) → IsAmong (m, time) (stamped time ms []) → IsUnheard first Master m (Hears Slave input at0 ∷ older) time) →
-    (ml.state ≡ Idle → ml.quiet ≡ 0 → next.state ≡ Idle → next.quiet ≡ 0 → AreAwake first (Hears Slave input at0 ∷ older) time) →
+    (ml.state ≡ Idle → rest_of ml ≡ 0 → next.state ≡ Idle → rest_of next ≡ 0 → AreAwake first (Hears Slave input at0 ∷ older) time) →
     (next.state ≡ SLock → IsLocking first (Hears Slave input at0 ∷ older) time) →
-    ((suffix : Option ℕ) → input ≡ Announce suffix → offers suffix ≡ true → sl.quiet ≡ 0 → ml.state ≡ Idle → ml.quiet ≡ 0) →
+    ((suffix : Option ℕ) → input ≡ Announce suffix → offers suffix ≡ true → rest_of sl ≡ 0 → ml.state ≡ Idle → rest_of ml ≡ 0) →
     (g.in_turn ≡ true → InTurn first older (Hears Slave input at0)) →
     Stage g first older lit ml sl me se ssent → Outcome g time lit Slave sl se input next later (stamped time ms ssent) ms →
     Stepped g first (Hears Slave input at0 ∷ older) time lit ml next mtick later msent (stamped time ms ssent) ⊎ (next.state ≡ LinkOn)
@@ -353,7 +356,8 @@ slave_steps g first older time lit ml sl next mtick stick later msent ssent me s
     })
 slave_steps g first older time lit ml sl next mtick stick later msent ssent me se input at0 ms h um us p told says begins locks awake turn (resting mi si w) (moves to u same m fresh) =
     let mv : MovesBy sl Slave Idle input to ms = moved_from sl Slave Idle input to ms si m in
-    let mz : ml.quiet ≡ 0 = awake mv.0.0 mv.0.1.0 mv.0.1.1 mv.1.1.1 mi in
+    let sz : rest_of sl ≡ 0 = none_left sl mv.1.1.1.0 mv.1.1.1.1 in
+    let mz : rest_of ml ≡ 0 = awake mv.0.0 mv.0.1.0 mv.0.1.1 sz mi in
     inl (record {
       me = me;
       se = time;
@@ -362,10 +366,10 @@ slave_steps g first older time lit ml sl next mtick stick later msent ssent me s
       stage =
           offered mi mz (same ∙ mv.1.0)
           (elim w [
-            | inl some ↦ absurd (omega (arith, some, mz))
+            | inl some ↦ absurd (some_rest (rest_of ml) some mz)
             | inr w ↦
                 elim w [
-                  | inl some ↦ absurd (omega (arith, some, mv.1.1.1))
+                  | inl some ↦ absurd (some_rest (rest_of sl) some sz)
                   | inr b ↦ soon_x b.1.1.0 lit time (g.quiet * g.pace.dmax) g.pace.announce (by_one g) b.1.1.1.0 (p.offers_come b.1.1.0 b.1.1.1.1) (omega arith)
                 ]
           ])

@@ -178,17 +178,20 @@ is_over_by : (s : LinkState) (quiet : ℕ) → (s ≢ Idle) ⊎ (quiet ≡ 0) �
 is_over_by Idle quiet o = elim o [ inl f ↦ absurd (f refl) | inr z ↦ ap (λ n. n == 0) z ]
 is_over_by _ quiet o = refl
 
--- both ends are awake, and the slave is in IDLE
+-- both ends are awake, and the slave is in IDLE, its holdoff over
 abbrev awaits : BothPorts → Bool
-awaits ends = is_same ends.slave.link.state Idle && (is_over ends.slave.link.state ends.slave.link.quiet && is_over ends.master.link.state ends.master.link.quiet)
+awaits ends =
+    (is_same ends.slave.link.state Idle && (is_over ends.slave.link.state ends.slave.link.quiet && is_over ends.master.link.state ends.master.link.quiet))
+    && (ends.slave.link.holdoff == 0)
 
 awaits_begins : (first : BothPorts) (changes : List Change) (at : ℤ) → AreAwake first changes at → (awaits (ends_after first changes) ≡ true) × (at ≡ (ends_after first changes).time)
 awaits_begins first changes at a =
     let ends : BothPorts = ends_after first changes in
     let idle : is_same ends.slave.link.state Idle ≡ true = ap (λ s. is_same s Idle) a.idle in
-    let mine : is_over ends.slave.link.state ends.slave.link.quiet ≡ true = is_over_by ends.slave.link.state ends.slave.link.quiet a.slave.over in
+    let mine : is_over ends.slave.link.state ends.slave.link.quiet ≡ true = is_over_by ends.slave.link.state ends.slave.link.quiet a.slave.awake.over in
     let masters : is_over ends.master.link.state ends.master.link.quiet ≡ true = is_over_by ends.master.link.state ends.master.link.quiet a.master.over in
-    (and_both _ _ idle (and_both _ _ mine masters), a.now)
+    let free : (ends.slave.link.holdoff == 0) ≡ true = elim a.slave.free [ inl out ↦ absurd (out a.idle) | inr none ↦ ap (λ n. n == 0) none ] in
+    (and_both _ _ (and_both _ _ idle (and_both _ _ mine masters)) free, a.now)
 
 abbrev offers_now : Change → Bool
 offers_now (Hears Slave (Announce suffix) at) = offers suffix

@@ -1,5 +1,5 @@
 -- What good delivery is: how soon each end of a link is given what it waits for. This project's profile.
-use Rattle.std.specs.Prelude.{◌≡◌, ◌⊎◌, Option, ℕ, ◌+◌, ◌*◌, ◌<◌, max, ℤ, pos, ◌+ℤ◌, ◌≤ℤ◌, true, List, [], ◌∷◌}
+use Rattle.std.specs.Prelude.{◌≡◌, ◌≢◌, ◌⊎◌, Option, ℕ, ◌+◌, ◌*◌, ◌<◌, max, ℤ, pos, ◌+ℤ◌, ◌≤ℤ◌, true, List, [], ◌∷◌}
 use Rattle.wrp_base.specs.declared.link.LinkState.TheVariants.{Idle, SLock}
 use Rattle.wrp_base.specs.declared.link.Role.{Role}
 use Rattle.wrp_base.specs.declared.link.Role.TheVariants.{Slave}
@@ -9,9 +9,10 @@ use Rattle.wrp_base.specs.Network.{other_of}
 use Rattle.wrp_link.specs.declared.interface.LinkIn.{LinkIn}
 use Rattle.wrp_link.specs.declared.interface.LinkIn.TheVariants.{Msg, Announce, Tick, CarrierDown, CarrierUp}
 use Rattle.wrp_link.specs.declared.interface.LinkSet.{LinkSet}
+use Rattle.wrp_link.specs.LinkAt.{LinkAt}
 use Rattle.wrp_link.specs.Rows.{offers, row_of}
 use Rattle.wrp_link.specs.Table.{sent_by}
-use Rattle.wrp_handshake.specs.Ends.{Sending, BothPorts, Change, Passes, Hears, Starts, Lights, end_of, IsAmong, stamped, ends_after}
+use Rattle.wrp_handshake.specs.Ends.{Sending, Port, BothPorts, Change, Passes, Hears, Starts, Lights, end_of, IsAmong, stamped, ends_after}
 use Rattle.wrp_handshake.specs.Laws.{IsAwake}
 
 -- the longest waits of a link, in tau
@@ -73,10 +74,19 @@ IsHeard role f _ = ⊥
 abbrev pub IsUnheard : BothPorts → Role → WrMsg → List Change → ℤ → Type 0
 IsUnheard first role m changes at = IsOwed (SendsNow first (other_of role) m) (IsHeard role (m, at)) changes at
 
--- at this time both ends are awake, and the slave is in IDLE
+-- the ticks of rest that are left to a port in IDLE: the quiet time or the holdoff, whichever is longer
+abbrev pub rest_of : LinkAt → ℕ
+rest_of l = max l.quiet l.holdoff
+
+-- a port that is awake, and whose holdoff is over too
+pub record IsReady (port : Port) : Type 0 where
+  pub awake : IsAwake port
+  pub free : (port.link.state ≢ Idle) ⊎ (port.link.holdoff ≡ 0)
+
+-- at this time both ends are awake, and the slave is in IDLE, its holdoff over
 pub record AreAwake (first : BothPorts) (changes : List Change) (at : ℤ) : Type 0 where
   pub master : IsAwake (ends_after first changes).master
-  pub slave : IsAwake (ends_after first changes).slave
+  pub slave : IsReady (ends_after first changes).slave
   pub idle : (ends_after first changes).slave.link.state ≡ Idle
   pub now : at ≡ (ends_after first changes).time
 
@@ -86,7 +96,7 @@ IsOffered (Hears hearer input at) =
     (hearer ≡ Slave) × ((suffix : Option ℕ) × ((input ≡ Announce suffix) × (offers suffix ≡ true)))
 IsOffered _ = ⊥
 
--- both ends were awake at a time, with the slave in IDLE, and no Announce has offered White Rabbit since
+-- both ends were so at a time, and no Announce has offered White Rabbit since
 abbrev pub IsUnoffered : BothPorts → List Change → ℤ → Type 0
 IsUnoffered first changes at = IsOwed (AreAwake first) IsOffered changes at
 
@@ -121,13 +131,13 @@ LeavesCarrier CarrierDown = ⊥
 LeavesCarrier (CarrierUp fitted) = ⊥
 LeavesCarrier _ = Unit {0}
 
--- a slave that is awake hears an offer only while its master is awake: a master in quiet time sends nothing,
--- and what it sent before that is too old by then; in its own quiet time a slave may hear any
+-- a slave that may begin hears an offer only while its master is awake: a master in quiet time sends nothing,
+-- and what it sent before that is too old by then; in its own quiet time or holdoff a slave may hear any
 abbrev pub OffersAwake : BothPorts → Role → LinkIn → Type 0
 OffersAwake ends hearer input =
     hearer ≡ Slave →
     (suffix : Option ℕ) → input ≡ Announce suffix → offers suffix ≡ true →
-    IsAwake ends.slave →
+    IsReady ends.slave →
     IsAwake ends.master
 
 -- a change that leaves both carriers alone, starts no node, and brings no offer of a master that is not awake

@@ -4,8 +4,10 @@
 //! retries are this project's profile.
 #![tactic(auto)]
 
+ghost use Rattle.wrp_link_up_laws.specs.Again.{WorkedAgain};
 ghost use Rattle.wrp_link_up_laws.specs.Alone.{NeedsOrder, NeedsRetries};
 ghost use Rattle.wrp_link_up_laws.specs.Laws.{ComesUp, ComesUpInTurn};
+ghost use Rattle.wrp_link_up_laws.specs.Rest.{ComesUpFromRest, ComesUpFromRestInTurn};
 ghost use Rattle.wrp_link_up_laws.specs.Slow.{NoSooner};
 ghost use Rattle.wrp_link_up_laws.specs.Worked.{NoSoonerInTurn, WorkedUp};
 
@@ -20,10 +22,27 @@ pub fn comes_up_in_turn()
     ensures { ComesUpInTurn }
 {}
 
+/// A link with good delivery comes up from rest as from new carriers: both its ends are in IDLE, as after a failed
+/// handshake, in quiet time or in holdoff, and the longer rest takes the place of the longer quiet time.
+pub fn comes_up_from_rest()
+    ensures { ComesUpFromRest }
+{}
+
+/// The same where no CALIBRATED overtakes a CALIBRATE.
+pub fn comes_up_from_rest_in_turn()
+    ensures { ComesUpFromRestInTurn }
+{}
+
 /// The laws are not empty: a link worked out from its carriers to past both stated times, of which all holds
 /// that the laws ask.
 pub fn worked_up()
     ensures { WorkedUp }
+{}
+
+/// Nor are the laws from rest: a link worked out whose first handshake fails, as both its messages are lost, and
+/// which comes up after the holdoff of its slave, with all that the two laws ask.
+pub fn worked_again()
+    ensures { WorkedAgain }
 {}
 
 /// The time of the first law cannot be lowered: a link of which all holds that the law asks is not up yet

@@ -1,0 +1,17 @@
+pub mod Asked
+pub mod Awaiting
+pub mod Counts
+pub mod Delivered
+pub mod Elsewhere
+pub mod Events
+pub mod Grounds
+pub mod Heard
+pub mod Lit
+pub mod Mapped
+pub mod Offers
+pub mod Owed
+pub mod Proved
+pub mod PutOut
+pub mod Rest
+pub mod Seen
+pub mod Senders
