@@ -1,0 +1,3 @@
+pub mod LosesNothing
+pub mod Worked
+pub mod Simulated
