@@ -6,3 +6,5 @@ pub mod HandingOver
 pub mod Choosing
 pub mod Following
 pub mod Simulating
+pub mod KindLines
+pub mod Printing
