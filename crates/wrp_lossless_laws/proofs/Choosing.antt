@@ -1,4 +1,4 @@
--- The datagram that is taken as a frame arrives is this frame, where all that arrived before were handed over.
+-- When a frame arrives and its datagram is taken, the loop's rule chooses this frame, if every frame that arrived before was handed over.
 use Rattle.std.proofs.Common.{◌≡◌, ◌∙◌, inl, inr, refl, ap, sym, subst, ℕ, ◌==◌, ◌||◌, ◌≤◌, ℤ, pos, ◌-ℤ◌, ◌≤ℤ◌, not, Bool, true, false, if◌then◌else◌, List, [], ◌∷◌, Option, None, Some, Result, arith}
 use Rattle.std.proofs.lemmas.Bool.{eqb-true}
 use Rattle.std.proofs.lemmas.Int.{ints}
@@ -44,7 +44,7 @@ or_right : (a b : Bool) → b ≡ true → (a || b) ≡ true
 or_right true b e = refl
 or_right false b e = e
 
--- it stays so that a frame has arrived
+-- a frame that has arrived stays arrived
 still_arrived : (s : Setting) (events : List Happened) (e : Event) (says : Result PtpMsg FrameFault) (y : ℤ) (i : ℕ) → HasArrived (world_after s events) i →
     HasArrived (world_after s (happened e says y ∷ events)) i
 still_arrived s events e says y i h =
@@ -116,7 +116,7 @@ given_number s events i f is =
     let w : WorldAt = world_after s events in
     (subst (λ (o : Option FrameAt). Numbered w.departed w.count i o) is (all_numbered s events i)).0
 
--- after its arrival it is there
+-- after its arrival the world still has it
 pub record Landed (s : Setting) (events : List Happened) (i : ℕ) (f : FrameAt) (raw : Raw) (says : Result PtpMsg FrameFault) (y : ℤ) : Type 0 where
   pub frame : FrameAt
   pub is : (world_after s (happened (Arrive i raw) says y ∷ events)).frame i ≡ Some frame
@@ -182,7 +182,7 @@ fate_by s events way octets i (Handed j) only is = same_frame j i (only (Some j)
 fate_by s events way octets i Forged only is = absurd (none-some i (only None is.0))
 fate_by s events way octets i Noisy only is = absurd (none-some i (only None is.0))
 
--- so the datagram is handed over as this frame
+-- so the fate of the datagram is that this frame is handed over
 pub fate_is : (s : Setting) (events : List Happened) (way : Way) (octets : List ℕ) (i : ℕ) (f : FrameAt) (raw : Raw) (says : Result PtpMsg FrameFault)
     (y : ℤ) (fate : Fate) → HandedSo s events → Flying s events i f → IsWayOf s f way octets →
     ((noted : Result PtpMsg FrameFault) → Accepts s (world_after s (happened (Arrive i raw) says y ∷ events)) noted (Deliver i)) →

@@ -1,5 +1,5 @@
--- Round by round a loop over a link that loses nothing has the events of a simulator, which stands as the one of the loop does, but for
--- the frame that it still owes and for faults that do not apply.
+-- Round by round, the events of a loop over a link that loses nothing are the events of a second simulator, which runs by itself. It has
+-- the state of the loop's own simulator, except for a frame that the loop's has still to hand over, and for faults that do not apply.
 use Rattle.std.proofs.Common.{◌≡◌, ◌∙◌, ◌⊎◌, inl, inr, refl, ap, sym, subst, ℕ, ℤ, ◌*◌, List, [], ◌∷◌, ◌++◌, append_assoc, append-nil, true, Option, None, Some, Result}
 use Rattle.arrayvec.specs.ArrayVec.{ArrayVec}
 use Rattle.wrp_base.specs.declared.message.PtpMsg.{PtpMsg}
@@ -35,22 +35,22 @@ use Rattle.wrp_lossless_laws.proofs.Owing.{Owed, Hands, Same, owed_next, owes_so
 use Rattle.wrp_lossless_laws.proofs.Settling.{ArrivesNext, dropped_next, settled_next}
 use Rattle.wrp_lossless_laws.proofs.Taking.{IsEmptied, TakenOne, taken_by}
 
--- The simulator of a loop beside one that hands its frames over
+-- The loop's simulator, and the second one
 
--- the loop's still hands over a frame that was handed over
+-- the loop's has still to hand over a frame that the second one handed over
 pub record Owes (loop sim : SimAt) : Type 0 where
   pub number : ℕ
   pub rest : SimAt
   pub owes : loop ≡ owing number rest
   pub paid : sim ≡ paid number rest
 
--- the loop's has dropped the faults that do not apply
+-- the loop's has dropped the faults that do not apply, and the second one has not yet
 pub record Drops (scene : SceneAt) (s : Setting) (w : WorldAt) (loop sim : SimAt) : Type 0 where
   pub is : loop ≡ rest_of s w sim
   pub begun : begins scene s w sim ≡ None
   pub fault : fails scene s w sim ≡ None
 
--- they give the same
+-- both give the same next event
 abbrev pub IsSettled : SceneAt → Setting → WorldAt → (loop sim : SimAt) → Type 0
 IsSettled scene s w loop sim = (loop ≡ sim) ⊎ Drops scene s w loop sim
 
@@ -75,9 +75,9 @@ gives_paid : (scene : SceneAt) (s : Setting) (w : WorldAt) (loop sim : SimAt) (m
     Some n ≡ next_of scene s w g.due (paid o.number o.rest) → Gives scene s w sim (Some n)
 gives_paid scene s w loop sim m n o g is = record { due = g.due; first = g.first; next = is ∙ ap (next_of scene s w g.due) (sym o.paid) }
 
--- A loop that has come so far
+-- How far a loop has come
 
--- the network, the scenario, and what is known of simulators
+-- the premises of the law, and that a simulated run is a run
 pub record Premises (x : Plan) : Type 0 where
   pub net : IsNetwork x.setting
   pub fits : IsSceneOf x.setting.cfg x.scene
@@ -85,7 +85,7 @@ pub record Premises (x : Plan) : Type 0 where
   pub repeat : x.scene.repeat ≡ 0
   pub runs : SimRunsAreRuns
 
--- its events are those of a simulator
+-- its events are a simulated run
 pub record Follows (x : Plan) (l : LoopAt) : Type 0 where
   pub sim : SimAt
   pub run : IsSimRun x.scene x.setting x.seed (events_at l) sim
@@ -93,7 +93,7 @@ pub record Follows (x : Plan) (l : LoopAt) : Type 0 where
   pub handed : HandedSo x.setting (events_at l)
   pub unforged : l.forged ≡ 0
 
--- and so they are where the number of the next is too great
+-- so they are if the number of the next event is too great
 pub record Stops (x : Plan) (l : LoopAt) : Type 0 where
   pub sim : SimAt
   pub run : IsSimRun x.scene x.setting x.seed (events_at l) sim
@@ -114,7 +114,7 @@ starts x = record {
   unforged = refl;
 }
 
--- An event that is no arrival, and hands no frame over
+-- An event that is no arrival and hands no frame over
 
 abbrev next_with : Event → SimAt → Next
 next_with e at = record { event = e; at = at }
@@ -125,7 +125,7 @@ arrives_not e i raw same plain = subst IsPlain same plain
 delivers_not : (e : Event) (i : ℕ) → e ≡ Deliver i → IsPlain e → ⊥
 delivers_not e i same plain = subst IsPlain same plain
 
--- what the simulator gives then, and how the loop's stands beside it
+-- the second simulator gives it too, and then both agree again
 record GivesPlain (scene : SceneAt) (s : Setting) (w v : WorldAt) (sim new : SimAt) (e : Event) : Type 0 where
   at : SimAt
   gives : GivesEvent scene s w sim e at
@@ -175,7 +175,7 @@ plain_follows x l next h r =
     } in
     subst (FollowsTo x) (sym r.leads) on
 
--- A frame of the simulator is left out: it was handed over before
+-- The loop leaves out a frame of its simulator: it was handed over before
 
 drop_settled : (scene : SceneAt) (s : Setting) (w : WorldAt) (sim new : SimAt) (i : ℕ) → sim.arrived.times ≡ 0 → GivesEvent scene s w sim (Deliver i) new → ⊥
 drop_settled scene s w sim new i none g =
@@ -212,9 +212,9 @@ dropped_follows x l next h r =
     } in
     subst (FollowsTo x) (sym r.leads) on
 
--- A frame arrives, and is handed over
+-- A frame arrives and is handed over
 
--- the simulator gives the arrival, and then the frame
+-- the second simulator gives the arrival, by rule 6
 record GivesFrame (scene : SceneAt) (s : Setting) (w : WorldAt) (sim new : SimAt) (i : ℕ) (raw : Raw) : Type 0 where
   gives : GivesEvent scene s w sim (Arrive i raw) new
   next : ArrivesNext scene s w gives.due sim (next_with (Arrive i raw) new)
@@ -240,7 +240,7 @@ gives_frame scene s w loop sim new i raw agrees g =
       | inr o ↦ absurd (frame_owed scene s w i raw new o.number o.rest g.due (owed_of scene s w loop sim (next_with (Arrive i raw) new) o g))
     ]
 
--- the frame that arrives has its number, and is on its fibre
+-- the frame that arrives is the one that is due, and it is on its fibre
 same_number : (scene : SceneAt) (s : Setting) (w : WorldAt) (sim new : SimAt) (i : ℕ) (raw : Raw) → (g : GivesFrame scene s w sim new i raw) → g.next.number ≡ i
 same_number scene s w sim new i raw g = let same : Arrive i raw ≡ Arrive g.next.number g.next.raw = ap (λ (n : Next). n.event) g.next.is in cc
 
@@ -256,7 +256,7 @@ owes_now scene s w sim new i raw loss repeat g =
     ∙ ap (λ (k : ℕ). record (after_arrival scene k (rest_of s w sim)) { ticked = None }) (same_number scene s w sim new i raw g)
     ∙ owes_then scene s w sim i loss repeat
 
--- after the arrival the simulator gives the frame
+-- after the arrival the second simulator hands the frame over
 gives_then : (scene : SceneAt) (s : Setting) (events : List Happened) (sim new : SimAt) (i : ℕ) (raw : Raw) (says : Result PtpMsg FrameFault) (y : ℤ) →
     scene.loss ≡ 0 → scene.repeat ≡ 0 → GivesFrame scene s (world_after s events) sim new i raw →
     GivesEvent scene s (world_after s (happened (Arrive i raw) says y ∷ events)) new (Deliver i) (paid i (arrived_at s (world_after s events) sim))
@@ -271,7 +271,7 @@ gives_then scene s events sim new i raw says y loss repeat g =
           ∙ hands_next scene s w due.0 sim i raw g.next.begun g.next.fault g.next.departs);
     }
 
--- both events
+-- the arrival, and the frame that the second simulator hands over next
 record Handing (x : Plan) (l : LoopAt) (sim : SimAt) (i : ℕ) (raw : Raw) (new : SimAt) (says : Result PtpMsg FrameFault) (y : ℤ) : Type 0 where
   frame : GivesFrame x.scene x.setting (world_at x l) sim new i raw
   run : IsSimRun x.scene x.setting x.seed (happened (Arrive i raw) says y ∷ events_at l) new
@@ -371,7 +371,7 @@ loop_follows x calls last p loses loops =
 
 -- Ends
 
--- where no event of the simulator comes any more, none comes of the other
+-- where the loop's simulator gives no event any more, the second gives none
 pub over_follows : (x : Plan) (l : LoopAt) (h : Follows x l) → Gives x.scene x.setting (world_at x l) l.at None →
     Gives x.scene x.setting (world_at x l) h.sim None
 over_follows x l h g =
@@ -387,7 +387,7 @@ large_owed : (x : Plan) (l : LoopAt) (sim : SimAt) (next : Next) → IsCounted n
 large_owed x l sim next counted o g (Same n both is) = (n, gives_paid x.scene x.setting (world_at x l) l.at sim next n o g is)
 large_owed x l sim next counted o g (Hands is begun fault) = absurd (subst IsCounted (ap (λ (n : Next). n.event) is) counted)
 
--- and where one comes that is counted, one comes of the other
+-- where it gives one that is counted, the second gives one
 pub large_follows : (x : Plan) (l : LoopAt) (h : Follows x l) → NextIsTooMany x l → (other : Next) × Gives x.scene x.setting (world_at x l) h.sim (Some other)
 large_follows x l h large =
     let w : WorldAt = world_at x l in

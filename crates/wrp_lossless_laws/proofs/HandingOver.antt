@@ -1,4 +1,4 @@
--- Where no frame is lost and none comes twice, the frame that arrives is handed over right after its arrival.
+-- If no frame is lost and none comes twice, the simulator hands a frame over right after its arrival.
 use Rattle.std.proofs.Common.{◌≡◌, ◌∙◌, refl, ap, ap₂, sym, ℕ, ◌%◌, ℤ, pos, ◌+ℤ◌, Bool, false, List, ◌∷◌, find, Option, None, Some, option_and_then, arith}
 use Rattle.std.proofs.lemmas.Int.{ints}
 use Rattle.std.proofs.lemmas.Option.{none-some}
@@ -20,7 +20,7 @@ use Rattle.wrp_lossless_laws.proofs.Settling.{later_next, none_begun, quiet_fail
 
 -- What is drawn
 
--- of a thousand times none
+-- a chance of 0 in 1000 never comes
 not_below : (n : ℕ) → lt_z (pos 0 +ℤ pos n) (pos 0) ≡ false
 not_below n = grind (arith, ints)
 
@@ -35,7 +35,7 @@ once scene state loss repeat =
 
 -- After an arrival
 
--- as the simulator stands then, but for the frame
+-- the state of the simulator then, except for the frame that arrived
 abbrev pub arrived_at : Setting → WorldAt → SimAt → SimAt
 arrived_at s w at = after_draw (after_draw (rest_of s w at))
 
@@ -44,13 +44,13 @@ pub owes_then : (scene : SceneAt) (s : Setting) (w : WorldAt) (at : SimAt) (i : 
 owes_then scene s w at i loss repeat =
     ap (λ (times : ℕ). record (arrived_at s w at) { ticked = None; arrived = handing i times }) (once scene at.state loss repeat)
 
--- no port has something to send then that had not before
+-- a port that had nothing to send has nothing to send then
 none_departs : (s : Setting) (w v : WorldAt) (at now : SimAt) (o : Option (ℕ × ℕ)) → option_and_then (departs_from s w at) o ≡ None →
     option_and_then (departs_from s v now) o ≡ None
 none_departs s w v at now None e = refl
 none_departs s w v at now (Some port) e = absurd (none-some _ (sym e))
 
--- it is handed over next
+-- the frame is handed over next
 pub hands_next : (scene : SceneAt) (s : Setting) (w : WorldAt) (due : Option (ℕ × ℤ)) (at : SimAt) (i : ℕ) (raw : Raw) → begins scene s w at ≡ None →
     fails scene s w at ≡ None → departs s w (rest_of s w at) ≡ None →
     next_of scene s (moved s w (Arrive i raw)) due (owing i (arrived_at s w at)) ≡ Some (record { event = Deliver i; at = paid i (arrived_at s w at) })

@@ -1,6 +1,6 @@
--- A loop and a simulation print the same lines of the kinds step, link, servo and track of the same events: the lines of the outputs
--- that a simulation prints. Event lines, counters and sums are of no such kind.
-use Rattle.std.proofs.Common.{◌≡◌, ◌∙◌, refl, ap, ap₂, sym, subst, ℕ, zero, suc, ◌+◌, ◌/◌, ◌%◌, ◌<◌, ◌≤◌, ◌==◌, ◌||◌, nat_lt, ℤ, pos, not, Bool, true, false, if◌then◌else◌, List, [], ◌∷◌, ◌++◌, append-nil, codes, cond, filter, flat_map, map, Option, Some, arith}
+-- Of the same events a loop and a simulation print the same lines of the kinds step, link, servo and track: the lines of the outputs that
+-- a simulation prints. Event lines, counters and sums are of none of these kinds.
+use Rattle.std.proofs.Common.{◌≡◌, ◌∙◌, refl, ap, ap₂, sym, ℕ, zero, suc, ◌+◌, ◌/◌, ◌%◌, ◌<◌, ◌≤◌, ◌==◌, nat_lt, ℤ, pos, not, Bool, true, false, if◌then◌else◌, List, [], ◌∷◌, ◌++◌, append-nil, codes, cond, filter, flat_map, map, Option, Some, arith}
 use Rattle.std.proofs.lemmas.Bool.{and_parts, ne_eqb, not-true}
 use Rattle.std.proofs.lemmas.List.Elements.{filter-append}
 use Rattle.std.proofs.lemmas.List.Folds.{concat-append}
@@ -63,7 +63,7 @@ by_output name tick (Report (Link port word)) bound truth = refl
 by_output name tick (Report (Servo state)) bound truth = refl
 by_output name tick (Report (Track est)) bound truth = refl
 
--- the line of an output is of such a kind where a simulation prints it
+-- the line of an output is of one of the kinds if and only if a simulation prints it
 output_kind : (s : Setting) (n tick : ℕ) (o : Output) (truth : Option ℤ) → HasNames s.cfg → is_of_kind (output_line s.cfg n tick o truth) ≡ is_printed o
 output_kind s n tick o truth names =
     ap has_kind (output_reads (name_at s.cfg n) tick o (pos (path_of s.cfg n)) truth (at_word s.cfg names n))
@@ -92,11 +92,11 @@ steps_kinds s w (step ∷ steps) names =
 
 -- Lines of events
 
--- `= `, and then one word
+-- an event line is `= ` and one word
 marked_kind : (s : Setting) (e : Event) → HasNames s.cfg → IsEventOf s.cfg e → is_of_kind (marked_line s.cfg e) ≡ false
 marked_kind s e names is = ap has_kind (reads (61 ∷ []) (event_text s.cfg e ∷ []) (refl, (event_word s.cfg e names is, tt)))
 
--- of the lines of a loop's events those of the outputs that a simulation prints
+-- those of the lines of a loop's events
 loop_kinds : (s : Setting) (events : List Happened) → HasNames s.cfg → AllEvents s.cfg events →
     filter is_of_kind (loop_lines s events) ≡ lines_in is_printed s events
 loop_kinds s [] names each = refl
@@ -165,7 +165,7 @@ third_number name second rest n is also =
     (one_part second (decimal n ++ 32 ∷ rest) also ∙ ap (λ (l : List (List ℕ)). second ∷ l) (one_part (decimal n) rest (decimal_word n))))
     ∙ decimal_kind n
 
--- no line is of such a kind
+-- a line of none of the kinds
 abbrev IsOther : List ℕ → Type 0
 IsOther line = is_of_kind line ≡ false
 
@@ -198,11 +198,11 @@ forged_other : (count : ℕ) (none : Bool) → AllByRecursion IsOther (if none t
 forged_other count true = tt
 forged_other count false = (ap has_kind (reads (codes "forged") (decimal count ∷ []) (refl, (decimal_word count, tt))), tt)
 
--- What a loop writes
+-- What a loop prints
 
-pub loop_told : (s : Setting) → IsNetwork s → (events : List Happened) (forged : ℕ) → AllEvents s.cfg events → AllFit events →
+pub loop_prints : (s : Setting) → IsNetwork s → (events : List Happened) (forged : ℕ) → AllEvents s.cfg events → AllFit events →
     kinds_in (loop_text s events ++ (all_counts s (world_after s events) ++ concat (forged_lines forged))) ≡ lines_in is_printed s events
-loop_told s net events forged each fit =
+loop_prints s net events forged each fit =
     let names : HasNames s.cfg = net.accepted.names in
     let counts : List (List ℕ) = count_lines s (world_after s events) in
     let lines : lines_of (loop_text s events ++ (all_counts s (world_after s events) ++ concat (forged_lines forged))) ≡
@@ -216,7 +216,7 @@ loop_told s net events forged each fit =
     ∙ ap₂ (λ (a b : List (List ℕ)). a ++ b) (loop_kinds s events names each) (none_kept counts (counts_other s names (world_after s events)))
     ∙ append-nil (lines_in is_printed s events)
 
--- or, where the number of the next event is too great, its line in the place of the counters
+-- The line that ends a run whose next event has too great a number
 left_all : (P : List ℕ → Type 0) (a b : List (List ℕ)) → AllByRecursion P (a ++ b) → AllByRecursion P a
 left_all P [] b h = tt
 left_all P (line ∷ a) b h = (h.0, left_all P a b h.1)
@@ -224,9 +224,9 @@ left_all P (line ∷ a) b h = (h.0, left_all P a b h.1)
 large_other : (number : ℕ) → IsOther (large_line number)
 large_other number = ap has_kind (reads (codes "too-large") (decimal number ∷ []) (refl, (decimal_word number, tt)))
 
--- lines of events, and behind them that line
-large_told : (lines : List (List ℕ)) (number : ℕ) → AllByRecursion IsWhole lines → kinds_in (concat lines ++ large_line number) ≡ filter is_of_kind lines
-large_told lines number whole =
+-- lines of events, and then that line
+large_prints : (lines : List (List ℕ)) (number : ℕ) → AllByRecursion IsWhole lines → kinds_in (concat lines ++ large_line number) ≡ filter is_of_kind lines
+large_prints lines number whole =
     ap (filter is_of_kind) (lines_behind lines (large_line number) whole ∙ ap (λ (l : List (List ℕ)). lines ++ l) (one_line number))
     ∙ filter-append is_of_kind lines (large_line number ∷ [])
     ∙ ap (λ (l : List (List ℕ)). filter is_of_kind lines ++ l) (none_kept (large_line number ∷ []) (large_other number, tt))
@@ -235,15 +235,15 @@ large_told lines number whole =
     one_line : (number : ℕ) → lines_of (large_line number) ≡ large_line number ∷ []
     one_line number = ap lines_of (sym (append-nil (large_line number))) ∙ lines_alone (large_line number ∷ []) (large_line_whole number, tt)
 
-pub loop_large : (s : Setting) → IsNetwork s → (events : List Happened) (number : ℕ) → AllEvents s.cfg events → AllFit events →
+pub loop_prints_large : (s : Setting) → IsNetwork s → (events : List Happened) (number : ℕ) → AllEvents s.cfg events → AllFit events →
     kinds_in (loop_text s events ++ large_line number) ≡ lines_in is_printed s events
-loop_large s net events number each fit =
+loop_prints_large s net events number each fit =
     let counts : List (List ℕ) = count_lines s (world_after s events) in
-    large_told (loop_lines s events) number
+    large_prints (loop_lines s events) number
     (left_all IsWhole (loop_lines s events) counts (left_all IsWhole (loop_lines s events ++ counts) (forged_lines 0) (all_whole s net events each fit 0)))
     ∙ loop_kinds s events net.accepted.names each
 
--- What a simulation writes
+-- What a simulation prints
 
 flat_text : {A : Type 0} (f : A → List (List ℕ)) (g : A → List ℕ) → ((a : A) → concat (f a) ≡ g a) → (xs : List A) → concat (flat_map f xs) ≡ flat_map g xs
 flat_text f g same [] = refl
@@ -287,7 +287,7 @@ events_whole s names (h ∷ before) =
     (whole_line s step.node (w.node step.node).ticks o (Some (w.clock step.node).off) names)) step.outs)
     (steps_at s before h))
 
--- its lines of events are all of such kinds
+-- its lines of events are all of the kinds
 maybe_stays : (b : Bool) (line : List ℕ) → is_of_kind line ≡ b → filter is_of_kind (if b then line ∷ [] else []) ≡ (if b then line ∷ [] else [])
 maybe_stays true line is = ap (λ (b : Bool). cond b (line ∷ []) []) is
 maybe_stays false line is = refl
@@ -309,7 +309,7 @@ events_stay s names (h ∷ before) =
     (output_kind s step.node (w.node step.node).ticks o (Some (w.clock step.node).off) names)) step.outs)
     (steps_at s before h))
 
--- and its sums are of none
+-- its sums are of none of the kinds
 sum_whole : (s : Setting) → HasNames s.cfg → (n ticks tracks worst : ℕ) (state : ServoState) → IsWhole (sum_line s.cfg n ticks tracks worst state)
 sum_whole s names n ticks tracks worst state =
     line_whole (name_at s.cfg n ∷ sum_words ticks tracks worst (pos (path_of s.cfg n)) (servo_word state)) (
@@ -326,8 +326,8 @@ map_each : {A : Type 0} (P : List ℕ → Type 0) (f : A → List ℕ) → ((a :
 map_each P f each [] = tt
 map_each P f each (x ∷ xs) = (each x, map_each P f each xs)
 
-pub sim_told : (s : Setting) → IsNetwork s → (events : List Happened) → kinds_in (sim_lines s events ++ sum_lines s events) ≡ lines_in is_printed s events
-sim_told s net events =
+pub sim_prints : (s : Setting) → IsNetwork s → (events : List Happened) → kinds_in (sim_lines s events ++ sum_lines s events) ≡ lines_in is_printed s events
+sim_prints s net events =
     let names : HasNames s.cfg = net.accepted.names in
     let w : WorldAt = world_after s events in
     let sums : List (List ℕ) = map (node_sum s events) (nodes_of s) in
@@ -348,9 +348,9 @@ sim_told s net events =
     ∙ ap₂ (λ (a b : List (List ℕ)). a ++ b) (events_stay s names events) (none_kept sums other)
     ∙ append-nil (lines_in is_printed s events)
 
-pub sim_large : (s : Setting) → IsNetwork s → (events : List Happened) (number : ℕ) →
+pub sim_prints_large : (s : Setting) → IsNetwork s → (events : List Happened) (number : ℕ) →
     kinds_in (sim_lines s events ++ large_line number) ≡ lines_in is_printed s events
-sim_large s net events number =
+sim_prints_large s net events number =
     ap (λ (l : List ℕ). kinds_in (l ++ large_line number)) (sym (sim_text s events))
-    ∙ large_told (lines_in is_printed s events) number (events_whole s net.accepted.names events)
+    ∙ large_prints (lines_in is_printed s events) number (events_whole s net.accepted.names events)
     ∙ events_stay s net.accepted.names events

@@ -1,5 +1,5 @@
--- A simulator that still hands over the frame that arrived last, beside one that has done so: the rules 1 to 4 give both the same, and
--- then the first hands the frame over.
+-- A simulator that has still to hand over the frame that arrived last, and one that has done so: the rules 1 to 4 give the same in both,
+-- and where none of them applies the first hands the frame over.
 use Rattle.std.proofs.Common.{◌≡◌, ◌⊎◌, inl, inr, refl, sym, subst, ℕ, ℤ, ◌-◌, nat_lt, Bool, true, false, if◌then◌else◌, List, [], ◌∷◌, find, Option, None, Some, option_and_then}
 use Rattle.std.proofs.lemmas.Option.{none-some, same_Some}
 use Rattle.wrp_base.specs.Network.{node_count}
@@ -15,25 +15,25 @@ use Rattle.wrp_sim.specs.Rules.{Next, after_draw, arrives, begins, delivers, dep
 use Rattle.wrp_sim.specs.SimAt.{SimAt}
 use Rattle.wrp_loop.specs.LoopRun.{IsPlain}
 
--- The same but for the node that ticked and the frame that arrived
+-- The same state, with another node that ticked and another frame that arrived
 
 abbrev pub holding : Option ℕ → Handed → SimAt → SimAt
 holding ticked arrived at = record at { ticked = ticked; arrived = arrived }
 
--- a frame that is handed over so often
+-- a frame that is handed over so many times
 abbrev pub handing : (frame times : ℕ) → Handed
 handing frame times = record { frame = frame; times = times }
 
--- it still hands the frame over once, or no more
+-- the frame is still handed over once, or no more
 abbrev pub owing : ℕ → SimAt → SimAt
 owing i at = holding None (handing i 1) at
 
 abbrev pub paid : ℕ → SimAt → SimAt
 paid i at = holding None (handing i 0) at
 
--- Two that are given by rules of both
+-- What a rule gives in both
 
--- the same event, which is no arrival and hands nothing over; and then again the same but for the frame that arrived
+-- the same event, which is no arrival and hands nothing over, and then the same state again, except for the frame that arrived
 pub record Both (a b : Handed) (m n : Next) : Type 0 where
   pub rest : SimAt
   pub plain : IsPlain m.event
@@ -96,7 +96,7 @@ departs_paired s w t a b at =
 abbrev after_handing : SceneAt → Setting → WorldAt → Option (ℕ × ℤ) → SimAt → List (Option Next)
 after_handing scene s w due at = arrives scene s w due at ∷ (ticks s w at ∷ (passes scene s w due at ∷ []))
 
--- the first of the rules 1 to 4 that applies gives both the same; or none of them does, and the frame is handed over
+-- one of the rules 1 to 4 gives the same in both; or none of them applies, and the frame is handed over
 pub data Owed (scene : SceneAt) (s : Setting) (w : WorldAt) (due : Option (ℕ × ℤ)) (i : ℕ) (at : SimAt) (m : Next) : Type 0 where
   Same : (n : Next) → Both (handing i 1) (handing i 0) m n → Some n ≡ next_of scene s w due (paid i at) → Owed scene s w due i at m
   Hands : m ≡ record { event = Deliver i; at = rest_of s w (paid i at) } → begins scene s w (paid i at) ≡ None → fails scene s w (paid i at) ≡ None →
@@ -136,7 +136,7 @@ owed_next scene s w due i at m is =
       | inr hands ↦ Hands hands.0 hands.1 hands.2
     ]
 
--- a frame that is owed is handed over at last, so something comes
+-- where a frame has still to be handed over, there is a next event
 first_some : (e : Next) (o p q r : Option Next) (others : List (Option Next)) → None ≡ first_of (o ∷ (p ∷ (q ∷ (r ∷ (Some e ∷ others))))) → ⊥
 first_some e (Some o) p q r others is = none-some o is
 first_some e None (Some p) q r others is = none-some p is

@@ -1,4 +1,4 @@
--- What is expected of a loop over a link that loses nothing, and of the simulation.
+-- What is expected of a loop over a link that loses nothing, and what is then expected of the simulation.
 use Rattle.std.proofs.Common.{◌≡◌, ◌⊎◌, ◌∙◌, inl, inr, refl, ap, sym, subst, append-nil, ℕ, ◌+◌, arith, length, List, [], ◌++◌, map}
 use Rattle.wrp_io.specs.declared.link.LinkCall.{LinkCall}
 use Rattle.wrp_course.specs.Run.{Happened}
@@ -23,7 +23,7 @@ use Rattle.wrp_simulate.proofs.ScenesFit.{scenario_fits}
 use Rattle.wrp_audit.specs.AuditText.{event_lines}
 use Rattle.wrp_commands.specs.Request.{CommandLine}
 use Rattle.wrp_commands.specs.Request as requests
-use Rattle.wrp_asked.specs.Answer.{Answer, LoopDue, RecordsDue}
+use Rattle.wrp_asked.specs.Answer.{LoopDue, RecordsDue}
 use Rattle.wrp_asked.specs.Headline.{CarriesRun}
 use Rattle.wrp_asked.specs.Input.{behind_separator, network_text}
 use Rattle.wrp_asked.specs.LoopHeadline.{Looped, LoopedEventsCarryParts}
@@ -33,12 +33,12 @@ use Rattle.wrp_lossless_laws.specs.Kinds.{kinds_in}
 use Rattle.wrp_lossless_laws.specs.Printed.{IsEnd, LosslessLoopPrintsTheSimulation, SaysNoLoss}
 use Rattle.wrp_lossless_laws.specs.Simulated.{HandsEachOver, IsSimulatedToo}
 use Rattle.wrp_lossless_laws.specs.LosesNothing.{LosesNothing}
-use Rattle.wrp_lossless_laws.proofs.KindLines.{loop_large, loop_told, sim_large, sim_told}
+use Rattle.wrp_lossless_laws.proofs.KindLines.{loop_prints_large, loop_prints, sim_prints_large, sim_prints}
 use Rattle.wrp_lossless_laws.proofs.Simulating.{simulated_too}
 
 -- What is expected of a loop
 
--- its calls tell it, or its records, which are not all a scenario
+-- its output follows from its link's calls, or from records that are not all of a scenario
 record Expected (asked : CommandLine) (input : List ℕ) (calls : List LinkCall) (status : Status) (octets : List ℕ) : Type 0 where
   setting : Setting
   seed : ℕ
@@ -63,7 +63,7 @@ expected asked seed input calls status octets looping (inr (inr loop)) = record 
 
 -- The run
 
--- the run of the loop, as its parts are told of it
+-- the run of the loop, as the aims of loops name it
 came_of : (asked : CommandLine) (input : List ℕ) (calls : List LinkCall) (s : Setting) (seed : ℕ) (ending : Ending) →
     AsksFor asked (network_text input) (Loop s seed) →
     (loop : LoopEnded s seed (map content_of (behind_separator (lines_of input))) calls ending) → Loops (plan_of s loop.scene seed) calls loop.last →
@@ -88,7 +88,7 @@ too_of : SimRunsAreRuns →
 too_of runs s seed lines calls ending loop net hands loses loops =
     simulated_too runs (plan_of s loop.scene seed) calls loop.last net (scenario_fits s lines loop.scene loop.said) hands loses loops
 
--- the simulation has its events
+-- a simulation has its events
 run_of : (s : Setting) (seed : ℕ) (lines : List (List ℕ)) (calls : List LinkCall) (ending : Ending) (loop : LoopEnded s seed lines calls ending) →
     Loops (plan_of s loop.scene seed) calls loop.last →
     IsSimulatedToo (plan_of s loop.scene seed) loop.last → Simulates s seed lines
@@ -107,7 +107,7 @@ run_of s seed lines calls ending loop loops it = record {
 
 -- What is expected of the simulation
 
--- its records, and what it writes that a loop wrote
+-- an output is expected, and it has the loop's lines of the four kinds
 record Printed (s : Setting) (seed : ℕ) (lines : List (List ℕ)) (status : Status) (octets : List ℕ) : Type 0 where
   text : List ℕ
   due : RecordsAnswer (simulation_of s seed) lines status text
@@ -136,10 +136,10 @@ done_printed runs s seed lines calls octets whole hands loses carried =
         closed = (run_of s seed (map content_of lines) calls Over loop loop.ends.0 it, it.over loop.ends.1, refl);
         is = refl;
       };
-      kinds = ap kinds_in wrote ∙ loop_told s net events (place loop.last).forged carried.run.each carried.fit ∙ sym (sim_told s net events);
+      kinds = ap kinds_in wrote ∙ loop_prints s net events (place loop.last).forged carried.run.each carried.fit ∙ sym (sim_prints s net events);
     }
 
--- one whose next event has too great a number
+-- a loop whose next event has too great a number
 next_number : (n : ℕ) → n ≡ 4_294_967_294 → n + 1 ≡ event_limit
 next_number n is = omega (arith, is)
 
@@ -167,10 +167,11 @@ large_printed runs s seed lines calls octets off hands loses carried =
         broken = (run_of s seed (map content_of lines) calls Large loop loop.ends.0 it, record { next = next.0; comes = next.1; number = number }, refl);
         is = refl;
       });
-      kinds = ap kinds_in wrote ∙ loop_large s net events event_limit carried.run.each carried.fit ∙ sym (sim_large s net events (length events + 1));
+      kinds = ap kinds_in wrote ∙ loop_prints_large s net events event_limit carried.run.each carried.fit
+          ∙ sym (sim_prints_large s net events (length events + 1));
     }
 
--- a record that is too large
+-- a record is too large, so neither runs
 scene_printed : (s : Setting) (seed : ℕ) (lines : List (List ℕ)) (octets : List ℕ) → IsLarge (scenario_of s) lines octets → Printed s seed lines TooLarge octets
 scene_printed s seed lines octets h = record {
   text = octets;
@@ -187,7 +188,7 @@ scene_printed s seed lines octets h = record {
   kinds = refl;
 }
 
--- each end of a loop
+-- each of these ends
 printed : SimRunsAreRuns → LoopedEventsCarryParts → (asked : CommandLine) (input : List ℕ) (calls : List LinkCall) (status : Status) (octets : List ℕ) →
     IsEnd status → SaysNoLoss input → LosesNothing calls →
     (h : Expected asked input calls status octets) → Printed h.setting h.seed (behind_separator (lines_of input)) status octets
@@ -210,16 +211,13 @@ printed runs parts asked input calls _ octets end none loses h = absurd end
 
 -- The law
 
--- the seed is the one that is asked for
+-- both are asked for with one seed
 same_seed : (looping simulating : CommandLine) (seed own : ℕ) → IsLooping looping seed → IsSimulation simulating seed →
     IsOnNetwork looping (requests.Loop own) → IsOnNetwork simulating (requests.Simulate own)
 same_seed looping simulating seed own loops simulates on =
     let same : requests.Loop seed ≡ requests.Loop own = one_command looping (requests.Loop seed) (requests.Loop own) loops on in
     let seeds : seed ≡ own = cc in
     subst (λ (k : ℕ). IsOnNetwork simulating (requests.Simulate k)) seeds simulates
-
-abbrev Told : CommandLine → List ℕ → Status → List ℕ → Type 0
-Told simulating input status octets = (text : List ℕ) × Answer simulating input [] status text × (kinds_in octets ≡ kinds_in text)
 
 of_records : SimRunsAreRuns → LoopedEventsCarryParts →
     (looping simulating : CommandLine) (seed : ℕ) (input octets : List ℕ) (calls : List LinkCall) (status : Status) → IsEnd status → IsLooping looping seed →

@@ -1,5 +1,5 @@
--- A simulator that hands nothing over: what comes next changes nothing of the frame that arrived last, or is an arrival; and without
--- the faults that do not apply the same comes next.
+-- A simulator that has no frame to hand over: its next event is an arrival, or it leaves the frame that arrived last as it is. Dropping
+-- the faults that do not apply does not change the next event.
 use Rattle.std.proofs.Common.{◌≡◌, ◌∙◌, ◌⊎◌, inl, inr, refl, ap, sym, subst, ℕ, ℤ, ◌+◌, ◌-◌, ◌≤◌, ◌-ℤ◌, ◌&&◌, nat_lt, Bool, true, false, if◌then◌else◌, List, [], ◌∷◌, cond, find, Option, None, Some, option_and_then, option_map, arith}
 use Rattle.std.proofs.lemmas.Option.{none-some, same_Some}
 use Rattle.std.specs.Ordering.{int_eq}
@@ -21,7 +21,7 @@ use Rattle.wrp_lossless_laws.proofs.Owing.{Paired, begins_paired, departs_paired
 
 -- The start is over, and no fault comes
 
--- where the start is over it stays so
+-- a start that is over stays over
 pub none_begun : (scene : SceneAt) (s : Setting) (w v : WorldAt) (at new : SimAt) → begins scene s w at ≡ None → new.begun ≡ at.begun →
     begins scene s v new ≡ None
 none_begun scene s w v at new none same =
@@ -33,7 +33,7 @@ none_begun scene s w v at new none same =
     ∙ ap (λ (b : Bool). if b then comes (up_event scene (new.begun - link_count s.cfg))
     (with_tick s v.time (new.begun - link_count s.cfg) (one_begun new)) else None) nodes
 
--- of faults whose times have not come none comes next, and none is dropped
+-- faults whose times have not come do not come next, and none of them is dropped
 quiet_next : (s : Setting) (v : WorldAt) (faults : List Fault) → AllQuiet s v.time faults → next_fault s v faults ≡ None
 quiet_next s v [] quiet = refl
 quiet_next s v (f ∷ faults) quiet = ap (λ (b : Bool). cond (b && applies v f.kind) (Some f) (next_fault s v faults)) quiet.0 ∙ quiet_next s v faults quiet.1
@@ -51,9 +51,9 @@ quiet_fails scene s v at quiet =
 pub quiet_stays : (s : Setting) (v : WorldAt) (at : SimAt) → AllQuiet s v.time at.faults → rest_of s v at ≡ at
 quiet_stays s v at quiet = ap (λ (l : List Fault). record at { faults = l }) (quiet_left s v at.faults quiet)
 
--- Without the faults that do not apply
+-- Dropping the faults that do not apply
 
--- where the first two rules give nothing, the others count
+-- where the first two rules give nothing, the others decide
 after_two : (a b : Option Next) (rules : List (Option Next)) → a ≡ None → b ≡ None → first_of (a ∷ (b ∷ rules)) ≡ first_of rules
 after_two a b rules p q = λ k. first_of (p k ∷ (q k ∷ rules))
 
@@ -72,7 +72,7 @@ dropped_next scene s w due at begun fault =
 
 -- What comes next
 
--- an event that is no arrival and hands nothing over, and changes nothing of the frame that arrived last
+-- an event that is no arrival, hands nothing over, and leaves the frame that arrived last as it is
 pub record PlainNext (at : SimAt) (m : Next) : Type 0 where
   pub plain : IsPlain m.event
   pub arrived : m.at.arrived ≡ at.arrived
@@ -95,7 +95,7 @@ pass_plain : (at : SimAt) (b : Bool) (o : Option Next) → PlainIf at o → Plai
 pass_plain at true o h = tt
 pass_plain at false o h = h
 
--- an arrival, which rule 6 gives, where the rules 1, 2 and 4 give nothing
+-- an arrival: rule 6 gives it, and the rules 1, 2 and 4 give nothing
 pub record ArrivesNext (scene : SceneAt) (s : Setting) (w : WorldAt) (due : Option (ℕ × ℤ)) (at : SimAt) (m : Next) : Type 0 where
   pub begun : begins scene s w at ≡ None
   pub fault : fails scene s w at ≡ None
@@ -140,7 +140,7 @@ first_settled at m None None None None None (Some g) h pa pb pc pd pg ph is = in
 first_settled at m None None None None None None (Some h) pa pb pc pd pg ph is = inl (subst (PlainNext at) (sym (same_Some m h is)) ph)
 first_settled at m None None None None None None None pa pb pc pd pg ph is = absurd (none-some m (sym is))
 
--- the rules, of which the fifth gives nothing
+-- rule 5 gives nothing
 nothing_handed : (at : SimAt) → at.arrived.times ≡ 0 → delivers at ≡ None
 nothing_handed at none =
     ap (λ (times : ℕ). if nat_lt 0 times then comes (Deliver at.arrived.frame)

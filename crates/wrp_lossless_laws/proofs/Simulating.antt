@@ -1,4 +1,4 @@
--- A loop over a link that loses nothing has the events of a simulation, to the end.
+-- The events of a loop over a link that loses nothing are a simulated run, and both end together.
 use Rattle.wrp_sim.specs.Keeps.{SimRunsAreRuns}
 use Rattle.wrp_loop.specs.LoopRun.{Full, Going, On, Plan}
 use Rattle.wrp_lossless_laws.specs.Simulated.{IsSimulatedToo, LosslessLoopIsSimulated}

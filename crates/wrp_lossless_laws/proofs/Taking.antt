@@ -1,4 +1,4 @@
--- Over a link that loses nothing one frame is taken for each that is sent, and it has its octets.
+-- Over a link that loses nothing, the calls at an arrival take one datagram, and it has the octets that were sent.
 use Rattle.std.proofs.Common.{◌≡◌, ◌≢◌, ◌∙◌, refl, ap, sym, subst, ℕ, List, [], ◌∷◌, ◌++◌, Option, None, Some, append_assoc, slice_get, arith}
 use Rattle.std.specs.List.{cons_option}
 use Rattle.std.proofs.lemmas.Option.{none-some, same_Some}
@@ -27,19 +27,19 @@ IsEmptied calls = Carries calls []
 one_later : (all before later : List LinkCall) (call : LinkCall) → all ≡ before ++ call ∷ later → all ≡ (before ++ call ∷ []) ++ later
 one_later all before later call is = is ∙ sym (append_assoc before (call ∷ []) later)
 
--- the frame that waits alone after it was sent
+-- the only frame that waits after it was sent
 abbrev waiting : ℕ → ArrayVec ℕ → Held
 waiting from frame = record { end = other_end from; frame = frame }
 
 after_send : (before : List LinkCall) (from : ℕ) (frame : ArrayVec ℕ) → IsEmptied before → Carries (before ++ Send from frame ∷ []) (waiting from frame ∷ [])
 after_send before from frame emptied = (moves_send [] from frame (waiting from frame) refl refl before emptied tt).0
 
--- what is received next, where this is held
+-- what is received next while these frames are held
 received : (calls : List LinkCall) (queue : List Held) (end : ℕ) (found : Option (ArrayVec ℕ)) → Carries calls queue → IsNext calls (Receive end found) →
     octets_of found ≡ slice_get (held_at end queue) 0
 received calls queue end found carries next = next ∙ ap (λ (octets : List (List ℕ)). slice_get octets 0) (waiting_is_held calls queue carries end)
 
--- at the other end the frame is held, and at no other
+-- the frame is held for the other end, and for no other
 held_there : (from : ℕ) (frame : ArrayVec ℕ) → held_at (other_end from) (waiting from frame ∷ []) ≡ frame.items ∷ []
 held_there from frame = ap (λ (o : Option (List ℕ)). cons_option o []) (own (other_end from) (waiting from frame) refl)
 
@@ -58,7 +58,7 @@ after_none calls end emptied next = (moves_receive [] [] end None None (refl, re
 
 -- One frame
 
--- what was taken, where this frame was sent
+-- one datagram was taken, and it has the octets of this frame
 pub record TakenOne (sent : ArrayVec ℕ) (got : List (ArrayVec ℕ)) : Type 0 where
   pub frame : ArrayVec ℕ
   pub one : got ≡ frame ∷ []
@@ -93,14 +93,14 @@ none_empties all before later end loses emptied is = after_none before end empti
 
 -- At an arrival
 
--- the calls until the last
+-- the calls up to the one that sends
 abbrev sent_before : List LinkCall → ℕ → List ℕ → List LinkCall
 sent_before before from octets = before ++ Send from (frame_of octets) ∷ []
 
 in_one : (before : List LinkCall) (a b c : LinkCall) → ((before ++ a ∷ []) ++ b ∷ []) ++ c ∷ [] ≡ before ++ a ∷ (b ∷ (c ∷ []))
 in_one before a b c = append_assoc (before ++ a ∷ []) (b ∷ []) (c ∷ []) ∙ append_assoc before (a ∷ []) (b ∷ (c ∷ []))
 
--- of what is sent at an end just this is taken at the other, and then all that was sent is received
+-- one datagram is taken, the one that was sent, and then all that was sent is received
 pub taken : (all before later : List LinkCall) (from : ℕ) (octets : List ℕ) (got : List (ArrayVec ℕ)) → LosesNothing all → IsEmptied before →
     all ≡ before ++ (arrival_calls from (other_end from) octets got ++ later) →
     TakenOne (frame_of octets) got × IsEmptied (before ++ arrival_calls from (other_end from) octets got)
@@ -133,12 +133,12 @@ taken all before later from octets (frame ∷ (other ∷ got)) loses emptied is 
     (one_later all before (Receive end (Some frame) ∷ (Receive end (Some other) ∷ more)) (Send from (frame_of octets)) is) in
     absurd (none-some other.items (sym (none_taken all (sent ++ Receive end (Some frame) ∷ []) more end (Some other) loses first rest)))
 
--- the two ends of a link
+-- the other end of a link, by the number of the link and by the number of the end
 pub other_is : (k : ℕ) (r : Role) → end_number k (other_of r) ≡ other_end (end_number k r)
 other_is k Master = grind arith
 other_is k Slave = grind arith
 
--- by the way of the frame
+-- the same, by the way of the frame
 pub taken_by : (all before later made : List LinkCall) (way : Way) (octets : List ℕ) (got : List (ArrayVec ℕ)) → LosesNothing all → IsEmptied before →
     made ≡ arrival_calls (sending_end way) (receiving_end way) octets got → all ≡ before ++ (made ++ later) →
     TakenOne (frame_of octets) got × IsEmptied (before ++ made)

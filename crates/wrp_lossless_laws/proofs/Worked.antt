@@ -1,4 +1,4 @@
--- The worked calls, one by one.
+-- Each call of the worked links, one after the other.
 use Rattle.std.proofs.Common.{◌≡◌, ◌∙◌, refl, ap, sym, subst, List, [], ◌∷◌, ◌++◌, append_assoc, append-nil, None, Some}
 use Rattle.std.proofs.lemmas.Option.{none-some}
 use Rattle.wrp_io.specs.declared.link.LinkCall.{LinkCall}
@@ -8,7 +8,7 @@ use Rattle.wrp_io.specs.FramesWaiting.{IsNext}
 use Rattle.wrp_lossless_laws.specs.LosesNothing.{LosesNothing}
 use Rattle.wrp_lossless_laws.specs.Worked.{WorkedLinks, carried_calls}
 
--- each of these calls is next, behind those before it
+-- each of these calls may come after the calls before it
 abbrev AllNext : (before calls : List LinkCall) → Type 0
 AllNext before [] = Unit {0}
 AllNext before (call ∷ calls) = IsNext before call × AllNext (before ++ call ∷ []) calls

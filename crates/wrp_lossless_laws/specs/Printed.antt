@@ -1,4 +1,4 @@
--- What is printed of a loop over a link that loses nothing is what is printed of the simulation (this project's profile).
+-- A loop over a link that loses nothing prints the lines of the simulation (this project's profile).
 use Rattle.std.specs.Prelude.{◌≡◌, ℕ, List, [], map}
 use Rattle.wrp_io.specs.declared.link.LinkCall.{LinkCall}
 use Rattle.wrp_course.specs.Setting.{Setting}
@@ -16,20 +16,20 @@ use Rattle.wrp_lossless_laws.specs.Kinds.{kinds_in}
 use Rattle.wrp_lossless_laws.specs.LosesNothing.{LosesNothing}
 use Rattle.wrp_lossless_laws.specs.Simulated.{HandsEachOver}
 
--- the records of the input say such a scenario, where they say one of the network that the text before them describes
+-- if the records of the input say a scenario of the network that its text describes, no frame is lost in it and none comes twice
 abbrev pub SaysNoLoss : List ℕ → Type 0
 SaysNoLoss input =
     (s : Setting) (scene : SceneAt) → IsSettingOf (network_text input) s →
     IsScenario s (map content_of (behind_separator (lines_of input))) scene → HandsEachOver scene
 
--- a run ends by its scenario, or since a record or an event has too great a number, or a line or the network text is too large
+-- a run to the end of its scenario, or one that something too large stops: the network text, a record, or the number of an event
 abbrev pub IsEnd : Status → Type 0
 IsEnd Done = Unit {0}
 IsEnd TooLarge = Unit {0}
 IsEnd _ = ⊥
 
--- where a loop is expected to end so, the simulation of the same input from the same seed is too, and of the lines of both those of the
--- kinds step, link, servo and track are the same
+-- if a loop is expected to end with one of these statuses, so is the simulation of the same input from the same seed, and the lines of
+-- the kinds step, link, servo and track are the same in both outputs
 abbrev pub LosslessLoopPrintsTheSimulation : Type 0
 LosslessLoopPrintsTheSimulation =
     (looping simulating : CommandLine) (seed : ℕ) (input octets : List ℕ) (calls : List LinkCall) (status : Status) →

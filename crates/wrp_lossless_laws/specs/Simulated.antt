@@ -1,5 +1,5 @@
--- The events of a loop over a link that loses nothing are those of a simulation of the same network, scenario and seed (this project's
--- profile).
+-- The events of a loop over a link that loses nothing are the events of a simulation of the same network, scenario and seed (this
+-- project's profile).
 use Rattle.std.specs.Prelude.{◌≡◌, List, None, Some}
 use Rattle.wrp_io.specs.declared.link.LinkCall.{LinkCall}
 use Rattle.wrp_course.specs.Runs.{IsNetwork}
@@ -16,7 +16,7 @@ pub record HandsEachOver (scene : SceneAt) : Type 0 where
   pub loss : scene.loss ≡ 0
   pub repeat : scene.repeat ≡ 0
 
--- a simulator that runs by itself has the events of this loop: it gives none where the loop is over, and one more where the number
+-- the events of this loop are a simulated run; the simulator gives no event after them if the loop is over, and one more if the number
 -- of the loop's next event is too great; and no datagram was forged
 pub record IsSimulatedToo (x : Plan) (last : Going) : Type 0 where
   pub at : SimAt

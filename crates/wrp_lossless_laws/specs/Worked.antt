@@ -1,4 +1,4 @@
--- Calls of a link that lost nothing, and of one that lost a frame (this project's profile).
+-- Calls of a link that lost nothing, and of three links that did not keep to that (this project's profile).
 use Rattle.std.specs.Prelude.{List, [], ◌∷◌, None, Some}
 use Rattle.wrp_io.specs.declared.link.LinkCall.{LinkCall}
 use Rattle.wrp_io.specs.declared.link.LinkCall.TheVariants.{Receive, Send, Start}
@@ -12,7 +12,7 @@ carried_calls =
     ∷ Send 1 (frame_of (9 ∷ [])) ∷ Receive 1 (Some (frame_of (8 ∷ []))) ∷ Receive 1 None
     ∷ Receive 0 (Some (frame_of (9 ∷ []))) ∷ []
 
--- one goes down link 0 and does not come, comes twice, or comes after a later one
+-- a frame that goes down link 0 is lost, comes twice, or is overtaken
 abbrev pub lost_calls : List LinkCall
 lost_calls = Start 2 ∷ Send 0 (frame_of (7 ∷ [])) ∷ Receive 1 None ∷ []
 

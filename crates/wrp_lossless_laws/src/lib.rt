@@ -1,5 +1,5 @@
-//! A loop over a link that loses nothing is the simulation: laws over the events of both, and over what both print. The functions
-//! do nothing; their contracts are the laws. All rules are this project's profile.
+//! A loop over a link that loses nothing is the simulation: laws of the events of both, and of what both print. The functions do
+//! nothing; their contracts are the laws. All rules are this project's profile.
 #![tactic(auto)]
 
 ghost use Rattle.wrp_lossless_laws.specs.Printed.{LosslessLoopPrintsTheSimulation};
@@ -9,17 +9,15 @@ ghost use Rattle.wrp_lossless_laws.specs.Worked.{WorkedLinks};
 use wrp_asked::looped_events_carry_parts;
 use wrp_sim::simulator_keeps_the_bounds;
 
-/// Where no frame is lost in the scenario and none comes twice, and each call of the link that receives gives
-/// what was sent, in order, the events of a loop are those of a simulation of the same network, scenario and
-/// seed.
+/// If the scenario loses and repeats no frame, and the link answers each reception with what was sent, in order,
+/// then the events of a loop are the events of a simulation of the same network, scenario and seed.
 pub fn lossless_loop_is_simulated()
     ensures { LosslessLoopIsSimulated }
 {
     simulator_keeps_the_bounds();
 }
 
-/// So what both print of the kinds step, link, servo and track is the same, line by line, and both end with the
-/// same status.
+/// So both print the same lines of the kinds step, link, servo and track, and end with the same status.
 pub fn lossless_loop_prints_the_simulation()
     ensures { LosslessLoopPrintsTheSimulation }
 {
@@ -27,8 +25,8 @@ pub fn lossless_loop_prints_the_simulation()
     looped_events_carry_parts();
 }
 
-/// Calls of a link that lost nothing, and calls of links that lost a frame, gave one twice or gave two in the
-/// wrong order.
+/// The definition of a link that loses nothing, worked out: calls that keep to it, and three lists of calls that do
+/// not, since a frame is lost, comes twice or is overtaken.
 pub fn worked_links()
     ensures { WorkedLinks }
 {}
