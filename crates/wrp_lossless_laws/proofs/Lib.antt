@@ -1,0 +1,10 @@
+pub mod Worked
+pub mod Taking
+pub mod Owing
+pub mod Settling
+pub mod HandingOver
+pub mod Choosing
+pub mod Following
+pub mod Simulating
+pub mod KindLines
+pub mod Printing

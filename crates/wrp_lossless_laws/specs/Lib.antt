@@ -1,0 +1,5 @@
+pub mod LosesNothing
+pub mod Worked
+pub mod Simulated
+pub mod Kinds
+pub mod Printed
