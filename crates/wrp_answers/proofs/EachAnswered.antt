@@ -1,5 +1,5 @@
 -- For whatever is asked and an input an answer is due.
-use Rattle.std.proofs.Common.{◌≡◌, ◌⊎◌, ◌∙◌, inl, inr, refl, ℕ, ◌≤◌, List, [], length, Option, None, Some, Result, Ok, Err}
+use Rattle.std.proofs.Common.{◌≡◌, ◌∙◌, inl, inr, refl, ℕ, ◌≤◌, List, [], length, Option, None, Some, Result, Ok, Err}
 use Rattle.std.proofs.lemmas.Bool.{cases_lt}
 use Rattle.wrp_base.specs.declared.fault.ConfFault.{ConfFault}
 use Rattle.wrp_base.specs.declared.fault.ConfFault.TheVariants.{Fault, Memory}
@@ -12,6 +12,7 @@ use Rattle.wrp_records.specs.declared.status.Status.{Status}
 use Rattle.wrp_records.specs.declared.status.Status.TheVariants.{Done, Usage, BadNetwork, BadTrace, Broken, ReadFault, WriteFault, LinkFault, TooLarge, OutOfMemory, BadCapture, BadCalib}
 use Rattle.wrp_records.specs.Lines.{lines_of}
 use Rattle.wrp_records.specs.declared.machine.Refusal.TheVariants as refusals
+use Rattle.wrp_records.specs.Stream.{Handles}
 use Rattle.wrp_records.specs.RecordsAnswer.{IsLarge, IsRefused, RecordsAnswer, HasAnswer}
 use Rattle.wrp_records.specs.Refusals.{bad_network_line, too_large_line}
 use Rattle.wrp_scene_records.specs.Scenarios.{scenario_of}
@@ -31,14 +32,16 @@ use Rattle.wrp_asked.proofs.WordLemmas.{asks_nothing}
 use Rattle.wrp_answers.proofs.Replaying.{each_replay_has_answer}
 use Rattle.wrp_answers.proofs.Simulating.{simulation_answered}
 use Rattle.wrp_answers.proofs.StandingAlone.{each_stands_alone_with_answer}
-use Rattle.wrp_answers.specs.EachAnswer.{EachHasAnswer, NeedsCalls}
+use Rattle.wrp_answers.specs.EachAnswer.{EachHasAnswer}
+use Rattle.wrp_answers.specs.LinkAnswers.{GivesFrames, HasAnswerOver, LinkAnswers}
+use Rattle.wrp_answers.proofs.LoopAnswered.{IsAskedBy, loop_answered}
 
 abbrev Answered : CommandLine → List ℕ → Type 0
 Answered asked input = (status : Status) × (octets : List ℕ) × Answer asked input [] status octets
 
--- or calls of a link tell it
-abbrev Settled : CommandLine → List ℕ → Type 0
-Settled asked input = Answered asked input ⊎ NeedsCalls asked input
+-- then it is over each link, where no call is made
+uncalled : (asked : CommandLine) (input : List ℕ) (link : LinkAnswers) → Answered asked input → HasAnswerOver link asked input
+uncalled asked input link it = record { calls = []; status = it.0; octets = it.1; follows = tt; due = inl it.2 }
 
 -- what is due of a task, or of a command that stands alone, is due
 due_of_task : (asked : CommandLine) (input : List ℕ) (status : Status) (octets : List ℕ) → TaskAnswer asked input [] status octets → Answer asked input [] status octets
@@ -111,7 +114,11 @@ simulation_in asked input seed net asks within reads =
     let s : Setting = setting_at net.cfg net.db in
     of_task asked input (Simulate s seed) (within, asks, record { net = net; reads = reads; is = refl }) (simulation_answered s seed (behind_separator (lines_of input)))
 
--- a run over a link is answered by its records, or needs calls
+-- a run over a link is answered by its records, or runs by their scenario
+asked_by : (asked : CommandLine) (input : List ℕ) (s : Setting) (seed : ℕ) (text : List ℕ) → AsksFor asked (network_text input) (Loop s seed)
+    → (h : Handles (simulation_of s seed).accepts (behind_separator (lines_of input)) text) → IsAskedBy asked input s seed h.accepted.0
+asked_by asked input s seed text asks h = record { asks = asks; sizes = h.sizes; count = h.count; said = h.accepted.1 }
+
 refused_scene : (s : Setting) (seed : ℕ) (lines : List (List ℕ)) (octets : List ℕ) → IsRefused (simulation_of s seed) refusals.BadTrace lines octets → IsRefused (scenario_of s) refusals.BadTrace lines octets
 refused_scene s seed lines octets h = record {
   before = h.before;
@@ -139,60 +146,72 @@ large_scene s seed lines octets h = record {
   is = h.is;
 }
 
-loop_by : (asked : CommandLine) (input : List ℕ) (s : Setting) (seed : ℕ) (status : Status) (octets : List ℕ) → AsksFor asked (network_text input) (Loop s seed)
-    → RecordsAnswer (simulation_of s seed) (behind_separator (lines_of input)) status octets → Settled asked input
-loop_by asked input s seed Done octets asks h = inr (s, seed, h.handled.accepted.0, asks, h.handled.accepted.1)
-loop_by asked input s seed BadTrace octets asks h =
-    inl (BadTrace, octets, inl (Loop s seed, asks, refused_scene s seed (behind_separator (lines_of input)) octets h, refl))
-loop_by asked input s seed TooLarge octets asks (inl h) =
-    inl (TooLarge, octets, inr (inl (Loop s seed, asks, inl (large_scene s seed (behind_separator (lines_of input)) octets h), refl)))
-loop_by asked input s seed TooLarge octets asks (inr h) = inr (s, seed, h.handled.accepted.0, asks, h.handled.accepted.1)
-loop_by asked input s seed Broken octets asks h = absurd h.refused
-loop_by asked input s seed BadCalib octets asks h = absurd h.broken
-loop_by asked input s seed _ octets asks h = absurd h
+loop_by : (asked : CommandLine) (input : List ℕ) (link : LinkAnswers) (s : Setting) (seed : ℕ) (status : Status) (octets : List ℕ)
+    → GivesFrames link → AsksFor asked (network_text input) (Loop s seed)
+    → RecordsAnswer (simulation_of s seed) (behind_separator (lines_of input)) status octets → HasAnswerOver link asked input
+loop_by asked input link s seed Done octets given asks h =
+    loop_answered asked input s seed h.handled.accepted.0 link given (asked_by asked input s seed h.written asks h.handled)
+loop_by asked input link s seed BadTrace octets given asks h =
+    uncalled asked input link (BadTrace, octets, inl (Loop s seed, asks, refused_scene s seed (behind_separator (lines_of input)) octets h, refl))
+loop_by asked input link s seed TooLarge octets given asks (inl h) =
+    uncalled asked input link (TooLarge, octets, inr (inl (Loop s seed, asks, inl (large_scene s seed (behind_separator (lines_of input)) octets h), refl)))
+loop_by asked input link s seed TooLarge octets given asks (inr h) =
+    loop_answered asked input s seed h.handled.accepted.0 link given (asked_by asked input s seed h.written asks h.handled)
+loop_by asked input link s seed Broken octets given asks h = absurd h.refused
+loop_by asked input link s seed BadCalib octets given asks h = absurd h.broken
+loop_by asked input link s seed _ octets given asks h = absurd h
 
-loop_in : (asked : CommandLine) (input : List ℕ) (seed : ℕ) (net : Network) → IsLooping asked seed → length (network_text input) ≤ network_limit → IsReadingOf (network_text input) (Ok net) → Settled asked input
-loop_in asked input seed net asks within reads =
+loop_in : (asked : CommandLine) (input : List ℕ) (link : LinkAnswers) (seed : ℕ) (net : Network) → GivesFrames link → IsLooping asked seed
+    → length (network_text input) ≤ network_limit → IsReadingOf (network_text input) (Ok net) → HasAnswerOver link asked input
+loop_in asked input link seed net given asks within reads =
     let s : Setting = setting_at net.cfg net.db in
     let due = simulation_answered s seed (behind_separator (lines_of input)) in
-    loop_by asked input s seed due.0 due.1 (within, asks, record { net = net; reads = reads; is = refl }) due.2
+    loop_by asked input link s seed due.0 due.1 given (within, asks, record { net = net; reads = reads; is = refl }) due.2
 
 -- The network text in front
 
 -- what is due in the network that it describes
-abbrev InNetwork : CommandLine → List ℕ → Type 0
-InNetwork asked input = (net : Network) → length (network_text input) ≤ network_limit → IsReadingOf (network_text input) (Ok net) → Settled asked input
+abbrev InNetwork : CommandLine → List ℕ → LinkAnswers → Type 0
+InNetwork asked input link =
+    (net : Network) → length (network_text input) ≤ network_limit → IsReadingOf (network_text input) (Ok net) → HasAnswerOver link asked input
 
-read_as : (asked : CommandLine) (input : List ℕ) → IsNetworked asked → InNetwork asked input → length (network_text input) ≤ network_limit
-    → (due : Result Network ConfFault) → IsSettled due → IsReadingOf (network_text input) due → Settled asked input
-read_as asked input asks inside within (Ok net) settled reads = inside net within reads
-read_as asked input asks inside within (Err (Fault code place)) settled reads =
-    inl (BadNetwork, bad_network_line code place.bytes, inl (asks, within, (code, place, reads, refl), refl))
-read_as asked input asks inside within (Err (Memory e)) settled reads = absurd settled
+read_as : (asked : CommandLine) (input : List ℕ) (link : LinkAnswers) → IsNetworked asked → InNetwork asked input link
+    → length (network_text input) ≤ network_limit
+    → (due : Result Network ConfFault) → IsSettled due → IsReadingOf (network_text input) due → HasAnswerOver link asked input
+read_as asked input link asks inside within (Ok net) settled reads = inside net within reads
+read_as asked input link asks inside within (Err (Fault code place)) settled reads =
+    uncalled asked input link (BadNetwork, bad_network_line code place.bytes, inl (asks, within, (code, place, reads, refl), refl))
+read_as asked input link asks inside within (Err (Memory e)) settled reads = absurd settled
 
-networked : (asked : CommandLine) (input : List ℕ) → IsNetworked asked → InNetwork asked input → Settled asked input
-networked asked input asks inside =
+networked : (asked : CommandLine) (input : List ℕ) (link : LinkAnswers) → IsNetworked asked → InNetwork asked input link → HasAnswerOver link asked input
+networked asked input link asks inside =
     elim (cases_lt network_limit (length (network_text input))) [
-      | inl long ↦ inl (TooLarge, too_large_line, inl (asks, long, refl, refl))
+      | inl long ↦ uncalled asked input link (TooLarge, too_large_line, inl (asks, long, refl, refl))
       | inr within ↦
           let due = each_is_read (network_text input) in
-          read_as asked input asks inside within due.0 due.1 due.2
+          read_as asked input link asks inside within due.0 due.1 due.2
     ]
 
 -- What is asked
 
 pub each_has_answer : ReadingIsAccepted → EachHasAnswer
-each_has_answer accepted asked input = go asked.request refl
+each_has_answer accepted asked input link given = go asked.request refl
   where
-    go : (request : Option Request) → asked.request ≡ request → Settled asked input
-    go None is = inl (Usage, asked.usage, (inl (asks_nothing asked is), refl, refl))
-    go (Some (requests.OnNetwork requests.Audit)) is = networked asked input (requests.Audit, is) (λ net within reads. inl (audit_in accepted asked input net is within reads))
+    go : (request : Option Request) → asked.request ≡ request → HasAnswerOver link asked input
+    go None is = uncalled asked input link (Usage, asked.usage, (inl (asks_nothing asked is), refl, refl))
+    go (Some (requests.OnNetwork requests.Audit)) is =
+        networked asked input link (requests.Audit, is) (λ net within reads. uncalled asked input link (audit_in accepted asked input net is within reads))
     go (Some (requests.OnNetwork (requests.Replay name))) is =
-        networked asked input (requests.Replay name, is) (λ net within reads. inl (replay_in asked input name net is within reads (node_named net.cfg name) refl))
+        networked asked input link (requests.Replay name, is)
+        (λ net within reads. uncalled asked input link (replay_in asked input name net is within reads (node_named net.cfg name) refl))
     go (Some (requests.OnNetwork (requests.Emit name))) is =
-        networked asked input (requests.Emit name, is) (λ net within reads. inl (emission_in accepted asked input name net is within reads (node_named net.cfg name) refl))
-    go (Some (requests.OnNetwork (requests.Simulate seed))) is = networked asked input (requests.Simulate seed, is) (λ net within reads. inl (simulation_in asked input seed net is within reads))
-    go (Some (requests.OnNetwork (requests.Loop seed))) is = networked asked input (requests.Loop seed, is) (λ net within reads. loop_in asked input seed net is within reads)
+        networked asked input link (requests.Emit name, is)
+        (λ net within reads. uncalled asked input link (emission_in accepted asked input name net is within reads (node_named net.cfg name) refl))
+    go (Some (requests.OnNetwork (requests.Simulate seed))) is =
+        networked asked input link (requests.Simulate seed, is)
+        (λ net within reads. uncalled asked input link (simulation_in asked input seed net is within reads))
+    go (Some (requests.OnNetwork (requests.Loop seed))) is =
+        networked asked input link (requests.Loop seed, is) (λ net within reads. loop_in asked input link seed net given is within reads)
     go (Some (requests.StandAlone alone)) is =
         let due = each_stands_alone_with_answer alone input in
-        inl (due.0, due.1, due_alone asked input due.0 due.1 (alone, is, due.2))
+        uncalled asked input link (due.0, due.1, due_alone asked input due.0 due.1 (alone, is, due.2))

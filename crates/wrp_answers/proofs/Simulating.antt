@@ -41,7 +41,7 @@ decided s seed lines line text accepted (Err fault) reads =
 -- Runs
 
 -- the rules give an event, or none
-given : (s : Setting) (scene : SceneAt) (events : List Happened) (at : SimAt) → (next : Option Next) × Gives scene s (world_after s events) at next
+pub given : (s : Setting) (scene : SceneAt) (events : List Happened) (at : SimAt) → (next : Option Next) × Gives scene s (world_after s events) at next
 given s scene events at =
     let due = next_arrival s events in
     (next_of scene s (world_after s events) due.0 at, record { due = due.0; first = due.1; next = refl })

@@ -1,5 +1,6 @@
 pub mod Accepted
 pub mod EachAnswer
+pub mod LinkAnswers
 pub mod Listed
 pub mod LoopAgain
 pub mod Moments

@@ -21,9 +21,10 @@ pub fn each_stands_alone_with_answer()
     ensures { EachStandsAloneWithAnswer }
 {}
 
-/// For what is asked and an input some status and octets are due, whatever is asked and whatever the octets are; but where a
-/// run over a link is asked for by a whole scenario, the calls of the link tell what is due, and of these nothing is said
-/// here. No other status and no other octets are due: that is `one_answer`.
+/// For what is asked, an input and a link a status and an output are expected, whatever is asked, whatever the octets are
+/// and whatever the link answers to each of its calls. The calls that are made, one after the other, have these answers.
+/// Where none of them fails, `one_answer` says that no other status and no other output are expected for them. Where one
+/// fails, LinkFault is expected, and the lines of the events before it.
 pub fn each_has_answer()
     ensures { EachHasAnswer }
 {
