@@ -7,6 +7,7 @@ pub mod EachLists
 pub mod Fitting
 pub mod FirstPorts
 pub mod FoundFrames
+pub mod FoundLinks
 pub mod FramesTurned
 pub mod FrameGifts
 pub mod Handing

@@ -1,5 +1,5 @@
 //! Frames that wait at the ends of links and were put out now.
-ghost use Rattle.std.specs.Prelude.{◌≡◌, ◌<◌, ◌||◌, false, length, nat_lt, if◌then◌else◌};
+ghost use Rattle.std.specs.Prelude.{◌≡◌, ◌<◌, ◌||◌, ℤ, None, false, true, length, nat_lt, if◌then◌else◌};
 ghost use Rattle.std.specs.Option.{option_map_or};
 ghost use Rattle.std.specs.Ordering.{int_eq};
 ghost use Rattle.wrp_base.specs.declared.link.Role.TheVariants.{Master, Slave};
@@ -33,6 +33,13 @@ fn either(a: bool, b: bool) -> bool
     ensures { result ≡ (a || b) }
 {
     a || b
+}
+
+// Whether there is neither of two moments.
+fn neither(a: Option<Tau>, b: Option<Tau>) -> bool
+    ensures { result ≡ true → (a ≡ None) × (b ≡ None) }
+{
+    a.is_none() && b.is_none()
 }
 
 // The place of a port by nodes and then ascending.
@@ -72,8 +79,21 @@ impl Plant {
         is_one_at(at, now)
     }
 
+    // Whether no frame waits at either end of a link.
+    fn is_idle(&self, k: u8) -> bool
+        requires fits { FitsPlant self.now }
+        requires link { k < length self.now.net.cfg.links.items }
+        ensures { (s : Setting) (w : WorldAt) → PlantIs s w self.now → result ≡ true
+            → (puts_out_at w k Master || puts_out_at w k Slave) ≡ false }
+    {
+        let span = self.span(k);
+        let upper = span.master.oldest();
+        let lower = span.slave.oldest();
+        neither(upper, lower)
+    }
+
     // The same, at one end of a link or the other.
-    fn puts_out_over(&self, k: u8) -> bool
+    fn puts_out_at_ends(&self, k: u8) -> bool
         requires fits { FitsPlant self.now }
         requires link { k < length self.now.net.cfg.links.items }
         ensures { (s : Setting) (w : WorldAt) → PlantIs s w self.now
@@ -88,6 +108,20 @@ impl Plant {
             role: Role::Slave,
         });
         either(upper, lower)
+    }
+
+    // The same; a link at which no frame waits is left at once.
+    fn puts_out_over(&self, k: u8) -> bool
+        requires fits { FitsPlant self.now }
+        requires link { k < length self.now.net.cfg.links.items }
+        ensures { (s : Setting) (w : WorldAt) → PlantIs s w self.now
+            → result ≡ (puts_out_at w k Master || puts_out_at w k Slave) }
+    {
+        if self.is_idle(k) {
+            false
+        } else {
+            self.puts_out_at_ends(k)
+        }
     }
 
     /// Whether a frame that was put out now is the oldest that waits at an end of a link.

@@ -1,5 +1,5 @@
 //! Memory that is taken before it is used.
-ghost use Rattle.std.specs.Prelude.{◌≡◌, ◌≤◌, ◌+◌, ℕ, OnOk};
+ghost use Rattle.std.specs.Prelude.{◌≡◌, ◌≤◌, ◌+◌, ℕ, true, OnOk};
 ghost use Rattle.wrp_plant.specs.Moves.{EachBecame};
 ghost use Rattle.wrp_plant.specs.Plant.{Each, FitsPlant, PlantIs};
 ghost use Rattle.wrp_plant.specs.Room.{HasEndRoom, HasRoom, HasSpanRoom, SameEnd, SameSpan};
@@ -9,6 +9,15 @@ ghost use Rattle.wrp_course.specs.WorldAt.{WorldAt};
 use super::Plant;
 use crate::ends::{EndState, Span};
 use std::alloc::AllocError;
+
+// Whether an end has places for so many steps.
+fn has_places(end: &EndState, steps: u8) -> bool
+    ensures { result ≡ true → HasEndRoom steps end.now }
+{
+    let frames = end.waiting.capacity() - end.waiting.len();
+    let marks = end.marks.capacity() - end.marks.len();
+    4 * usize::from(steps) <= frames && usize::from(steps) <= marks
+}
 
 // Places for so many steps at an end.
 fn reserve_end(end: &mut EndState, steps: u8) -> Result<(), AllocError>
@@ -22,7 +31,7 @@ fn reserve_end(end: &mut EndState, steps: u8) -> Result<(), AllocError>
 }
 
 // Places for so many steps at both ends of a link.
-fn reserve_span(span: &mut Span, steps: u8) -> Result<(), AllocError>
+fn reserve_both(span: &mut Span, steps: u8) -> Result<(), AllocError>
     ensures same { SameSpan 0 span.old span.new }
     ensures room { OnOk result (HasSpanRoom steps span.new) }
     ensures kept { (k : ℕ) → HasSpanRoom k span.old → HasSpanRoom k span.new }
@@ -30,6 +39,18 @@ fn reserve_span(span: &mut Span, steps: u8) -> Result<(), AllocError>
     reserve_end(&mut span.master, steps)?;
     reserve_end(&mut span.slave, steps)?;
     Ok(())
+}
+
+// The same; nothing is asked for where the places are there.
+fn reserve_span(span: &mut Span, steps: u8) -> Result<(), AllocError>
+    ensures same { SameSpan 0 span.old span.new }
+    ensures room { OnOk result (HasSpanRoom steps span.new) }
+    ensures kept { (k : ℕ) → HasSpanRoom k span.old → HasSpanRoom k span.new }
+{
+    if has_places(&span.master, steps) && has_places(&span.slave, steps) {
+        return Ok(());
+    }
+    reserve_both(span, steps)
 }
 
 // Places for so many steps at all ends.

@@ -1,5 +1,5 @@
 //! Fibres that move, are joined and are cut, and frames that are lost as they wait.
-ghost use Rattle.std.specs.Prelude.{◌≡◌, ◌<◌, ◌≤◌, ◌+ℤ◌, ◌^◌, length, slice_get, Some, unsigned_abs};
+ghost use Rattle.std.specs.Prelude.{◌≡◌, ◌<◌, ◌≤◌, ◌+ℤ◌, ◌^◌, pos, true, length, slice_get, Some, unsigned_abs};
 ghost use Rattle.wrp_course.specs.Moved.{move_of};
 ghost use Rattle.wrp_plant.specs.Moves.{At, Cuts, Drops, DropsAt, Empties, Joins, Moves, EachBecame, Where, touches_in};
 ghost use Rattle.wrp_plant.specs.Plant.{Each};
@@ -56,13 +56,34 @@ pub fn moved(fibre: &FibreState, moves: &[(i64, i64)], k: u8) -> FibreState
     moved
 }
 
-// The delays of a link move by its own of the moves.
-fn move_one(span: &mut Span, moves: &[(i64, i64)], k: usize)
+// The delays of a link move by its own of the moves, down and up.
+fn move_span(span: &mut Span, moves: &[(i64, i64)], k: usize)
     requires ms { IsDelay span.old.fibre.ms }
     requires sm { IsDelay span.old.fibre.sm }
     ensures { Moves moves.now k span.old span.new }
 {
     move_by(&mut span.fibre, down_at(moves, k), up_at(moves, k));
+}
+
+// Whether the delays of a fibre move neither down nor up.
+fn stays_at(moves: &[(i64, i64)], k: usize) -> bool
+    ensures { result ≡ true → move_of moves.now k ≡ (pos 0, pos 0) }
+{
+    match moves.get(k) {
+        Some(by) => by.0 == 0 && by.1 == 0,
+        None => true,
+    }
+}
+
+// The same; a fibre that does not move is left at once.
+fn move_one(span: &mut Span, moves: &[(i64, i64)], k: usize)
+    requires ms { IsDelay span.old.fibre.ms }
+    requires sm { IsDelay span.old.fibre.sm }
+    ensures { Moves moves.now k span.old span.new }
+{
+    if !stays_at(moves, k) {
+        move_span(span, moves, k);
+    }
 }
 
 /// The delays of each link move by its own of the moves.
@@ -118,8 +139,8 @@ pub fn cut(spans: &mut Vec<Span>, k: u8)
     cut_span(&mut spans[usize::from(k)]);
 }
 
-// An end of a link is this node's.
-fn is_end_of(link: &LinkCfg, n: u8) -> bool
+/// An end of a link is this node's.
+pub fn is_end_of(link: &LinkCfg, n: u8) -> bool
     ensures { result ≡ touches_in n (Some link.now) }
 {
     link.upper == n || link.lower == n

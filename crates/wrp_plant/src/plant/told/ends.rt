@@ -9,6 +9,7 @@ ghost use Rattle.wrp_plant.specs.Room.{HasEndRoom, HasSpanRoom};
 use super::News;
 use super::reads::{is_same, state_in};
 use crate::ends::{EndState, PutOut, Span};
+use crate::plant::moves::spans::is_end_of;
 use wrp_base::{Frame, LinkCfg, LinkState, Mark, NetCfg, Tau, WrMsg};
 use wrp_node::Output;
 
@@ -106,7 +107,7 @@ fn tell_where(end: &mut EndState, is_its: bool, port: u16, now: Tau, news: &News
 }
 
 // A node's step is told to the ends of a link that are the node's.
-fn tell_link(span: &mut Span, link: &LinkCfg, now: Tau, news: &News, outs: &[Output])
+fn tell_both(span: &mut Span, link: &LinkCfg, now: Tau, news: &News, outs: &[Output])
     requires few { SendsFew outs.now }
     requires room { HasSpanRoom 1 span.old }
     ensures told { TellsSpan now news.now outs.now link.now span.old span.new }
@@ -128,6 +129,18 @@ fn tell_link(span: &mut Span, link: &LinkCfg, now: Tau, news: &News, outs: &[Out
         news,
         outs,
     );
+}
+
+// The same; a link of which no end is the node's is left at once.
+fn tell_link(span: &mut Span, link: &LinkCfg, now: Tau, news: &News, outs: &[Output])
+    requires few { SendsFew outs.now }
+    requires room { HasSpanRoom 1 span.old }
+    ensures told { TellsSpan now news.now outs.now link.now span.old span.new }
+    ensures room { (k : ℕ) → HasSpanRoom (k + 1) span.old → HasSpanRoom k span.new }
+{
+    if is_end_of(link, news.node) {
+        tell_both(span, link, now, news, outs);
+    }
 }
 
 // The same, of the link of a number.

@@ -1,6 +1,6 @@
 //! Which premise the modules break with which a node comes up, and what the network has of one.
-ghost use Rattle.std.specs.Prelude.{◌≡◌, ◌<◌, ◌≤◌, ◌^◌, ◌∷◌, [], length, map, flat_map, not, unsigned_abs, IfSome, Result};
-ghost use Rattle.std.specs.Option.{is_some};
+ghost use Rattle.std.specs.Prelude.{◌≡◌, ◌<◌, ◌≤◌, ◌^◌, ◌==◌, ◌∷◌, [], length, map, flat_map, not, true, false, slice_get, unsigned_abs, IfSome, Result};
+ghost use Rattle.std.specs.Option.{is_some, option_map_or};
 ghost use Rattle.wrp_base.specs.Clock.{steps_of_period};
 ghost use Rattle.wrp_base.specs.declared.message.PtpMsg.{PtpMsg};
 ghost use Rattle.wrp_base.specs.Network.{link_above as link_over};
@@ -18,7 +18,7 @@ use crate::checks::stands;
 use crate::premises::modules::module_kept;
 use crate::premises::rates::true_at_top;
 use arrayvec::ArrayVec;
-use wrp_base::{LinkCfg, Module, Role, Tau};
+use wrp_base::{LinkCfg, Module, NetCfg, Role, Tau};
 use wrp_config::link_above;
 use wrp_course::{Breach, Place, Swap, other_of, place_of};
 
@@ -30,6 +30,27 @@ fn sends_nm(role: Role, link: &LinkCfg) -> u16
         Role::Master => link.down_nm,
         Role::Slave => link.up_nm,
     }
+}
+
+// Whether the link of a number stands above a node.
+fn is_above(cfg: &NetCfg, k: usize, n: u8) -> bool
+    ensures { result ≡ option_map_or (λ link. link.lower == n) (slice_get cfg.now.links.items k) false }
+{
+    match cfg.links.get(k) {
+        Some(link) => link.lower == n,
+        None => false,
+    }
+}
+
+// Whether the link above a node has the number one below the node's: so it is where links are in the order of
+// their lower nodes and the first node is the grandmaster.
+fn has_own_link(cfg: &NetCfg, n: u8) -> bool
+    ensures { result ≡ true → is_some (link_over cfg.now n) ≡ true }
+{
+    if n == 0 {
+        return false;
+    }
+    is_above(cfg, usize::from(n) - 1, n)
 }
 
 impl Plant {
@@ -54,7 +75,11 @@ impl Plant {
             → result ≡ not (is_some (link_over s.cfg n)) }
     {
         let cfg = self.cfg();
-        link_above(cfg, n).is_none()
+        if has_own_link(cfg, n) {
+            false
+        } else {
+            link_above(cfg, n).is_none()
+        }
     }
 
     // The grandmaster comes up with true time.

@@ -1,4 +1,4 @@
-use Rattle.wrp_plant.proofs.plant.room.reserve_span.Goals as goal
+use Rattle.wrp_plant.proofs.plant.room.reserve_both.Goals as goal
 
 pub returns-in_err-reserve_end-clause-kept : goal.returns-in_err-reserve_end-clause-kept
 returns-in_err-reserve_end-clause-kept c k h = record { master = c.reserve_end.ensures.kept k h.master; slave = h.slave }
