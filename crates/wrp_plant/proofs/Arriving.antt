@@ -22,6 +22,8 @@ use Rattle.wrp_plant.specs.Moves.{Changed, Same}
 use Rattle.wrp_plant.specs.Plant.{DepartedIs, FitsDeparted, FitsPlant, FramesAre, PlantIs, ReceptionIs, SpanIs}
 use Rattle.wrp_course.specs.Setting.{Setting, end_at, is_role}
 use Rattle.wrp_course.specs.WorldAt.{Arrival, FrameAt, WorldAt, is_on_fibre}
+use Rattle.wrp_plant.proofs.PutsKept.{never_later, same_puts}
+use Rattle.wrp_plant.proofs.RoomKept.{same_room}
 use Rattle.wrp_plant.proofs.Fitting.{plant_fits, same_clocks, same_spans, time_more, due_more, turned_fit}
 use Rattle.wrp_plant.proofs.FoundFrames.{Found}
 use Rattle.wrp_plant.proofs.FramesTurned.{ChangeIs, found_kept, frames_turned, none_on, on_alike}
@@ -189,3 +191,4 @@ arrive_fits j from r old new a c few f =
     (same_spans old.events old.spans.items new.spans.items c.of_spans f.spans)
     (turned_fit (length old.net.cfg.links.items) old.events (arrives_by j r from.link from.role) old.frames new.frames c.of_frames
     (λ i x h. either_fits (length old.net.cfg.links.items) old.events (i == j) x r (is_older j from.link from.role i x) a h) f.frames)
+    (same_room _ _ _ old new c old.spare f.room) (same_puts old.last_put _ _ _ old new c f.puts) (never_later old.time)

@@ -21,12 +21,14 @@ use Rattle.wrp_plant.specs.Flights.{LosesOldest, TakesOldest, delay_in, departed
 use Rattle.wrp_course.specs.Moved.{behind_first, departing, is_place, moved, one_more, waiting_at}
 use Rattle.wrp_plant.specs.Moves.{At, Changed, Same, SameFrames, EachBecame, Where}
 use Rattle.wrp_plant.specs.Plant.{DepartedIs, Each, EndIs, FitsDeparted, FitsEnd, FitsFrames, FitsPlant, FitsSpan, FramesAre, MaybeIs, PlantIs, PutOutIs, SpanIs, end_in, kept_since}
-use Rattle.wrp_plant.specs.Room.{HasEndRoom, HasRoom, HasSpanRoom}
+use Rattle.wrp_plant.specs.EndRoom.{HasEndRoom, HasSpanRoom}
+use Rattle.wrp_plant.specs.Room.{HasRoom}
 use Rattle.wrp_course.specs.Setting.{Setting, is_role, place_of}
 use Rattle.wrp_plant.specs.Sizes.{IsDelayBy, IsDueBy, IsHorizonBy, IsTimeBy}
 use Rattle.wrp_course.specs.WorldAt.{EndAt, FrameAt, Sending, WorldAt, delay_from, is_on_fibre}
 use Rattle.wrp_plant.proofs.EachLists.{length_push}
 use Rattle.wrp_plant.proofs.FramesTurned.{frames_same, on_since, since_some}
+use Rattle.wrp_plant.proofs.PutsKept.{depart_puts, never_later}
 use Rattle.wrp_plant.proofs.Fitting.{frame_more, frames_more, plant_fits, same_clocks, span_more, time_more, delay_more, end_more, where_fits}
 use Rattle.wrp_plant.proofs.Moving.{plant_is}
 use Rattle.wrp_plant.proofs.Standing.{down_told, end_told}
@@ -290,15 +292,6 @@ departs_fit : (links e : ℕ) (d : Option Departed) (old new : FramesAt) → Dep
 departs_fit links e None old new p k f = subst (FitsFrames links (e + 1)) (sym p) (frames_more links e old f)
 departs_fit links e (Some d) old new p k f = one_fits links e d old new p k f
 
-pub depart_fits : (place : Place) (d : Option Departed) (old new : Plant) → Changed Same (EachBecame (At place.link (TakesOldest place.role))) (Departs d) old.time old new →
-    IfSome d (FitsDeparted (length old.net.cfg.links.items) (old.events + 1)) → old.events + 1 < 2 ^ 32 → FitsPlant old → FitsPlant new
-depart_fits place d old new c k few f =
-    plant_fits _ _ _ _ old new c f few (time_more old.events old.time f.time) (ap length c.of_clocks) c.of_spans.0
-    (same_clocks old.events old.clocks.items new.clocks.items c.of_clocks f.clocks)
-    (each_turned (At place.link (TakesOldest place.role)) (λ n. FitsSpan old.events) (λ n. FitsSpan (old.events + 1)) old.spans.items new.spans.items c.of_spans
-    (λ m x y r h. where_fits (m == place.link) (TakesOldest place.role) (FitsSpan old.events) (FitsSpan (old.events + 1)) x y r (span_fits old.events place.role x y) (span_more old.events x) h) f.spans)
-    (departs_fit (length old.net.cfg.links.items) old.events d old.frames new.frames c.of_frames k f.frames)
-
 end_room : (k : ℕ) (x y : EndState) → LosesOldest x y → HasEndRoom k x → HasEndRoom k y
 end_room k x y r h = record {
   waiting = omega (arith, h.waiting, r.len, r.room);
@@ -316,6 +309,16 @@ pub depart_room : (place : Place) (d : Option Departed) (old new : Plant) → Ch
 depart_room place d old new c k h =
     each_turned (At place.link (TakesOldest place.role)) (λ i. HasSpanRoom k) (λ i. HasSpanRoom k) old.spans.items new.spans.items c.of_spans
     (λ i x y r p. where_fits (i == place.link) (TakesOldest place.role) (HasSpanRoom k) (HasSpanRoom k) x y r (span_room k place.role x y) (λ q. q) p) h
+
+pub depart_fits : (place : Place) (d : Option Departed) (old new : Plant) → Changed Same (EachBecame (At place.link (TakesOldest place.role))) (Departs d) old.time old new →
+    IfSome d (FitsDeparted (length old.net.cfg.links.items) (old.events + 1)) → old.events + 1 < 2 ^ 32 → FitsPlant old → FitsPlant new
+depart_fits place d old new c k few f =
+    plant_fits _ _ _ _ old new c f few (time_more old.events old.time f.time) (ap length c.of_clocks) c.of_spans.0
+    (same_clocks old.events old.clocks.items new.clocks.items c.of_clocks f.clocks)
+    (each_turned (At place.link (TakesOldest place.role)) (λ n. FitsSpan old.events) (λ n. FitsSpan (old.events + 1)) old.spans.items new.spans.items c.of_spans
+    (λ m x y r h. where_fits (m == place.link) (TakesOldest place.role) (FitsSpan old.events) (FitsSpan (old.events + 1)) x y r (span_fits old.events place.role x y) (span_more old.events x) h) f.spans)
+    (departs_fit (length old.net.cfg.links.items) old.events d old.frames new.frames c.of_frames k f.frames)
+    (depart_room place d old new c old.spare f.room) (depart_puts old.last_put place _ _ _ old new c f.puts) (never_later old.time)
 
 -- What follows where a call answers Ok
 

@@ -1,5 +1,5 @@
 -- What an event changes by itself keeps the sizes of the numbers of a plant.
-use Rattle.std.proofs.Common.{◌≡◌, ◌∙◌, refl, ap, sym, subst, ℕ, ◌+◌, ◌<◌, ◌≤◌, ◌^◌, ◌==◌, ℤ, ◌+ℤ◌, Bool, true, false, List, length, slice_get, Option, None, Some, unsigned_abs, arith}
+use Rattle.std.proofs.Common.{◌≡◌, ◌∙◌, refl, ap, sym, subst, ℕ, ◌+◌, ◌<◌, ◌≤◌, ◌^◌, ◌==◌, ℤ, pos, ◌+ℤ◌, ◌≤ℤ◌, Bool, true, false, List, length, slice_get, Option, None, Some, unsigned_abs, arith}
 use Rattle.std.proofs.lemmas.Int.{ints}
 use Rattle.std.proofs.lemmas.Option.{none-some}
 use Rattle.wrp_base.specs.declared.configuration.NetCfg.{NetCfg}
@@ -22,6 +22,10 @@ use Rattle.wrp_course.specs.Moved.{drift_of, move_of, swap_at}
 use Rattle.wrp_plant.specs.Moves.{EachBecame, Same, SameFrames, Where, At, Changed, Drifts, Samples, GoesDown, Moves, Joins, Empties, Cuts, Drops, DropsAt, touches_in, ComesUp, Swapped, SwapsIn, SwapsAt}
 use Rattle.wrp_plant.specs.Plant.{Each, FitsClock, FitsDeparted, FitsEnd, FitsFrames, FitsPlant, FitsSpan}
 use Rattle.wrp_plant.specs.Sizes.{IsTimeBy, IsHorizonBy, IsOffBy, IsDelayBy, IsDueBy}
+use Rattle.wrp_plant.specs.EndRoom.{SpanPutBy}
+use Rattle.wrp_plant.specs.Room.{HasRoom}
+use Rattle.wrp_plant.proofs.PutsKept.{cut_puts, down_puts, join_puts, later_still, never_later, pass_puts, passed, same_puts, up_puts}
+use Rattle.wrp_plant.proofs.RoomKept.{cut_room, down_room, join_room, pass_room, same_room, up_room}
 use Rattle.wrp_plant.proofs.Turned.{each_turned, each_same}
 
 -- One event more
@@ -116,8 +120,9 @@ pub plant_fits : (C : List ClockState → List ClockState → Type 0) (S : List 
     (t : ℤ) (old new : Plant) → Changed C S F t old new → FitsPlant old → old.events + 1 < 2 ^ 32 → IsTimeBy (old.events + 1) t →
     length new.clocks.items ≡ length old.clocks.items → length new.spans.items ≡ length old.spans.items →
     ClocksFit (old.events + 1) new.clocks.items → SpansFit (old.events + 1) new.spans.items →
-    FitsFrames (length old.net.cfg.links.items) (old.events + 1) new.frames → FitsPlant new
-plant_fits C S F t old new c f few ht hc hs clocks spans frames = record {
+    FitsFrames (length old.net.cfg.links.items) (old.events + 1) new.frames → HasRoom old.spare new →
+    Each (λ k. SpanPutBy old.last_put) new.spans.items → old.time ≤ℤ t → FitsPlant new
+plant_fits C S F t old new c f few ht hc hs clocks spans frames room puts later = record {
   accepted = subst (λ (g : NetCfg). IsAccepted g new.net.db) (sym c.cfg) (subst (λ (d : Database). IsAccepted old.net.cfg d) (sym c.db) f.accepted);
   clock_count = hc ∙ f.clock_count ∙ ap (λ (g : NetCfg). length g.nodes.items) (sym c.cfg);
   span_count = hs ∙ f.span_count ∙ ap (λ (g : NetCfg). length g.links.items) (sym c.cfg);
@@ -126,6 +131,9 @@ plant_fits C S F t old new c f few ht hc hs clocks spans frames = record {
   clocks = subst (λ n. ClocksFit n new.clocks.items) (sym c.count) clocks;
   spans = subst (λ n. SpansFit n new.spans.items) (sym c.count) spans;
   frames = subst (λ (g : NetCfg). FitsFrames (length g.links.items) new.events new.frames) (sym c.cfg) (subst (λ n. FitsFrames (length old.net.cfg.links.items) n new.frames) (sym c.count) frames);
+  room = subst (λ n. HasRoom n new) (sym c.spare) room;
+  puts = subst (λ z. Each (λ k. SpanPutBy z) new.spans.items) (sym c.last_put) puts;
+  put = subst (λ z. z ≤ℤ new.time) (sym c.last_put) (subst (λ z. old.last_put ≤ℤ z) (sym c.time) (later_still old.last_put old.time t f.put later));
 }
 
 pub same_clocks : (e : ℕ) (xs ys : List ClockState) → ys ≡ xs → ClocksFit e xs → ClocksFit (e + 1) ys
@@ -205,14 +213,16 @@ tick_fits old new c few f =
     (same_clocks old.events old.clocks.items new.clocks.items c.of_clocks f.clocks)
     (same_spans old.events old.spans.items new.spans.items c.of_spans f.spans)
     (same_frames (length old.net.cfg.links.items) old.events old.frames new.frames c.of_frames f.frames)
+    (same_room _ _ _ old new c old.spare f.room) (same_puts old.last_put _ _ _ old new c f.puts) (never_later old.time)
 
-pub pass_fits : (drifts : List ℤ) (moves : List (ℤ × ℤ)) (dt : ℤ) (old new : Plant) → unsigned_abs dt ≤ 2 ^ 63 →
+pub pass_fits : (drifts : List ℤ) (moves : List (ℤ × ℤ)) (dt : ℤ) (old new : Plant) → unsigned_abs dt ≤ 2 ^ 63 → pos 0 ≤ℤ dt →
     Changed (EachBecame (Drifts drifts)) (EachBecame (Moves moves)) (Passes (old.frames.horizon +ℤ dt)) (old.time +ℤ dt) old new → old.events + 1 < 2 ^ 32 → FitsPlant old → FitsPlant new
-pass_fits drifts moves dt old new h c few f =
+pass_fits drifts moves dt old new h l c few f =
     plant_fits _ _ _ _ old new c f few (time_later old.events old.time dt f.time h) c.of_clocks.0 c.of_spans.0
     (each_turned (Drifts drifts) (λ n. FitsClock old.events) (λ n. FitsClock (old.events + 1)) old.clocks.items new.clocks.items c.of_clocks (λ n x y r k. drift_fits old.events drifts n x y r k) f.clocks)
     (each_turned (Moves moves) (λ n. FitsSpan old.events) (λ n. FitsSpan (old.events + 1)) old.spans.items new.spans.items c.of_spans (λ n x y r k. move_fits old.events moves n x y r k) f.spans)
     (passed_fit (length old.net.cfg.links.items) old.events dt old.frames new.frames c.of_frames h f.frames)
+    (pass_room moves _ _ _ old new c old.spare f.room) (pass_puts old.last_put moves _ _ _ old new c f.puts) (passed old.time dt l)
 
 pub sampled_fits : (n : ℕ) (old new : Plant) → Changed (EachBecame (At n Samples)) Same SameFrames old.time old new → old.events + 1 < 2 ^ 32 → FitsPlant old → FitsPlant new
 sampled_fits n old new c few f =
@@ -221,6 +231,7 @@ sampled_fits n old new c few f =
     (λ m x y r k. where_fits (m == n) Samples (FitsClock old.events) (FitsClock (old.events + 1)) x y r (sample_fits old.events x y) (clock_more old.events x) k) f.clocks)
     (same_spans old.events old.spans.items new.spans.items c.of_spans f.spans)
     (same_frames (length old.net.cfg.links.items) old.events old.frames new.frames c.of_frames f.frames)
+    (same_room _ _ _ old new c old.spare f.room) (same_puts old.last_put _ _ _ old new c f.puts) (never_later old.time)
 
 pub joined_fits : (l : ℕ) (ms sm : ℤ) (old new : Plant) → unsigned_abs ms ≤ 2 ^ 63 → unsigned_abs sm ≤ 2 ^ 63 →
     Changed Same (EachBecame (At l (Joins ms sm))) SameFrames old.time old new → old.events + 1 < 2 ^ 32 → FitsPlant old → FitsPlant new
@@ -230,6 +241,7 @@ joined_fits l ms sm old new a b c few f =
     (each_turned (At l (Joins ms sm)) (λ n. FitsSpan old.events) (λ n. FitsSpan (old.events + 1)) old.spans.items new.spans.items c.of_spans
     (λ m x y r k. where_fits (m == l) (Joins ms sm) (FitsSpan old.events) (FitsSpan (old.events + 1)) x y r (join_fits old.events ms sm x y a b) (span_more old.events x) k) f.spans)
     (same_frames (length old.net.cfg.links.items) old.events old.frames new.frames c.of_frames f.frames)
+    (join_room l ms sm _ _ _ old new c old.spare f.room) (join_puts old.last_put l ms sm _ _ _ old new c f.puts) (never_later old.time)
 
 pub cut_off_fits : (l : ℕ) (old new : Plant) → Changed Same (EachBecame (At l Cuts)) (Turned (loses_link l)) old.time old new → old.events + 1 < 2 ^ 32 → FitsPlant old → FitsPlant new
 cut_off_fits l old new c few f =
@@ -239,6 +251,7 @@ cut_off_fits l old new c few f =
     (λ m x y r k. where_fits (m == l) Cuts (FitsSpan old.events) (FitsSpan (old.events + 1)) x y r (cut_fits old.events x y) (span_more old.events x) k) f.spans)
     (turned_fit (length old.net.cfg.links.items) old.events (loses_link l) old.frames new.frames c.of_frames
     (λ i d k. lost_fits (length old.net.cfg.links.items) old.events (d.link == l) d (loses_link l i d) refl k) f.frames)
+    (cut_room l _ _ _ old new c old.spare f.room) (cut_puts old.last_put l _ _ _ old new c f.puts) (never_later old.time)
 
 pub gone_down_fits : (n : ℕ) (links : List LinkCfg) (old new : Plant) →
     Changed (EachBecame (At n GoesDown)) (EachBecame (DropsAt n links)) (Turned (loses_node n links)) old.time old new → old.events + 1 < 2 ^ 32 → FitsPlant old → FitsPlant new
@@ -250,6 +263,7 @@ gone_down_fits n links old new c few f =
     (λ m x y r k. where_fits (touches_in n (slice_get links m)) Drops (FitsSpan old.events) (FitsSpan (old.events + 1)) x y r (drop_fits old.events x y) (span_more old.events x) k) f.spans)
     (turned_fit (length old.net.cfg.links.items) old.events (loses_node n links) old.frames new.frames c.of_frames
     (λ i d k. lost_fits (length old.net.cfg.links.items) old.events (is_at_node n links d.link) d (loses_node n links i d) refl k) f.frames)
+    (down_room n links _ _ _ old new c old.spare f.room) (down_puts old.last_put n links _ _ _ old new c f.puts) (never_later old.time)
 
 -- Modules that are put in place
 
@@ -287,3 +301,4 @@ come_up_fits n off swaps links old new a c few f =
     (each_turned (SwapsAt n swaps links) (λ n. FitsSpan old.events) (λ n. FitsSpan (old.events + 1)) old.spans.items new.spans.items c.of_spans
     (λ m x y r k. put_span_fits old.events n swaps (slice_get links m) x y r k) f.spans)
     (same_frames (length old.net.cfg.links.items) old.events old.frames new.frames c.of_frames f.frames)
+    (up_room n swaps links _ _ _ old new c old.spare f.room) (up_puts old.last_put n swaps links _ _ _ old new c f.puts) (never_later old.time)

@@ -18,6 +18,8 @@ pub mod Moving
 pub mod NewPlants
 pub mod NextArrivals
 pub mod PutOuts
+pub mod PutsKept
+pub mod Quiet
 pub mod Refusals
 pub mod RoomKept
 pub mod Roomy

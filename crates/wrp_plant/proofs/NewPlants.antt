@@ -14,6 +14,7 @@ use Rattle.wrp_plant.specs.declared.ends.PutOut.{PutOut}
 use Rattle.wrp_plant.specs.declared.ends.Span.{Span}
 use Rattle.wrp_course.specs.declared.fibres.FibreState.{FibreState}
 use Rattle.wrp_plant.specs.declared.plant.Plant.{Plant}
+use Rattle.wrp_plant.specs.EndRoom.{PutBy, SpanPutBy}
 use Rattle.wrp_plant.specs.New.{IsNewEnd, IsNewSpan, IsSpanOf, new_clock}
 use Rattle.wrp_plant.specs.Plant.{Each, EndIs, SpanIs, FitsClock, FitsSpan, FitsFrames, FramesAre, PlantIs}
 use Rattle.wrp_course.specs.Setting.{Setting, start_of, entry_at}
@@ -104,6 +105,16 @@ spans_fit db links spans count each k span e =
     let at : (link : LinkCfg) × (slice_get links k ≡ Some link) =
     place_at links k (subst (λ n. k < n) count (at_place spans k span e)) in
     span_fits db at.0 span (each k span e at.0 at.1)
+
+no_put : (z : ℤ) (end : EndState) → end.waiting.items ≡ [] → PutBy z end
+no_put z end e i out g = absurd (none-some out (sym (ap (λ l. slice_get l i) e) ∙ g))
+
+-- and no frame waits
+pub none_put : (z : ℤ) (db : Database) (links : List LinkCfg) (spans : List Span) → length spans ≡ length links → Each (IsSpanOf db links) spans → Each (λ k. SpanPutBy z) spans
+none_put z db links spans count each k span e =
+    let at : (link : LinkCfg) × (slice_get links k ≡ Some link) = place_at links k (subst (λ n. k < n) count (at_place spans k span e)) in
+    let it : IsNewSpan db at.0 span = each k span e at.0 at.1 in
+    record { master = no_put z span.master it.master.waiting; slave = no_put z span.slave it.slave.waiting }
 
 no_time : (e i : ℕ) (t : ℤ) → sent_at i [] ≡ Some t → IsTimeBy e t
 no_time e i t g = absurd (none-some t (sym (none_sent i) ∙ g))

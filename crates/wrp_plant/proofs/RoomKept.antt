@@ -12,7 +12,8 @@ use Rattle.wrp_course.specs.Moved.{swap_at}
 use Rattle.wrp_plant.specs.Moves.{EachBecame, Same, Where, At, Changed, HasFibre, Moves, Joins, Empties, Loses, Cuts, Drops, DropsAt, touches_in, Swapped, SwapsIn, SwapsAt}
 use Rattle.wrp_plant.specs.Plant.{Each, FitsPlant}
 use Rattle.wrp_plant.specs.PlantTold.{NoneStepped}
-use Rattle.wrp_plant.specs.Room.{HasEndRoom, HasRoom, HasSpanRoom}
+use Rattle.wrp_plant.specs.EndRoom.{HasEndRoom, HasSpanRoom}
+use Rattle.wrp_plant.specs.Room.{HasRoom}
 use Rattle.wrp_plant.proofs.Turned.{each_turned}
 
 emptied_room : (k : ℕ) (x y : EndState) → Empties x y → HasEndRoom k x → HasEndRoom k y

@@ -1,5 +1,5 @@
 -- Memory that is taken changes nothing, and what an event changes by itself leaves the memory that was taken.
-use Rattle.std.proofs.Common.{◌≡◌, ◌∙◌, refl, ap, sym, subst, ℕ, ◌<◌, ◌≤◌, ◌⊎◌, inl, inr, List, Some, slice_get, arith}
+use Rattle.std.proofs.Common.{◌≡◌, ◌∙◌, refl, ap, sym, subst, ℕ, ℤ, ◌<◌, ◌≤◌, ◌⊎◌, inl, inr, List, Some, slice_get, arith}
 use Rattle.std.specs.List.{AllZip}
 use Rattle.std.proofs.lemmas.Bool.{cases_lt}
 use Rattle.wrp_plant.specs.declared.ends.EndState.{EndState}
@@ -9,10 +9,12 @@ use Rattle.wrp_course.specs.declared.fibres.FibreState.{FibreState}
 use Rattle.wrp_plant.specs.declared.plant.Plant.{Plant}
 use Rattle.wrp_plant.specs.Moves.{EachBecame}
 use Rattle.wrp_plant.specs.Plant.{Each, EndIs, FitsEnd, FitsPlant, FitsSpan, FramesAre, PlantIs, PutOutIs, SpanIs}
-use Rattle.wrp_plant.specs.Room.{HasEndRoom, HasSpanRoom, SameEnd, SameSpan}
+use Rattle.wrp_plant.specs.EndRoom.{HasEndRoom, HasSpanRoom, SpanPutBy}
+use Rattle.wrp_plant.specs.Room.{SameEnd, SameSpan}
 use Rattle.wrp_course.specs.Setting.{Setting}
 use Rattle.wrp_plant.specs.Sizes.{IsDelayBy, IsTimeBy}
 use Rattle.wrp_course.specs.WorldAt.{WorldAt, EndAt}
+use Rattle.wrp_plant.proofs.PutsKept.{same_waiting}
 use Rattle.wrp_plant.proofs.Turned.{Came, TurnedTo, each_turned}
 
 -- A loop that takes memory, link by link
@@ -108,16 +110,30 @@ span_fits e k x y r h = record {
   slave = end_fits e x.slave y.slave r.slave h.slave;
 }
 
-pub same_fits : (old : Plant) (ys : Plant) → ys ≡ record old { spans = ys.spans } → EachBecame SameSpan old.spans.items ys.spans.items → FitsPlant old → FitsPlant ys
-same_fits old ys same r f =
-    subst FitsPlant (sym same)
-    (record {
-      accepted = f.accepted;
-      clock_count = f.clock_count;
-      span_count = r.0 ∙ f.span_count;
-      events = f.events;
-      time = f.time;
-      clocks = f.clocks;
-      spans = each_turned SameSpan (λ n. FitsSpan old.events) (λ n. FitsSpan old.events) old.spans.items ys.spans.items r (λ k x y q p. span_fits old.events k x y q p) f.spans;
-      frames = f.frames;
-    })
+span_put : (z : ℤ) (k : ℕ) (x y : Span) → SameSpan k x y → SpanPutBy z x → SpanPutBy z y
+span_put z k x y r h =
+    record { master = same_waiting z x.master y.master r.master.waiting h.master; slave = same_waiting z x.slave y.slave r.slave.waiting h.slave }
+
+pub same_fits : (old ys : Plant) → ys ≡ record old { spans = ys.spans; spare = ys.spare } → EachBecame SameSpan old.spans.items ys.spans.items →
+    Each (λ i. HasSpanRoom ys.spare) ys.spans.items → FitsPlant old → FitsPlant ys
+same_fits old ys same r room f = subst FitsPlant (sym same) (record {
+  accepted = f.accepted;
+  clock_count = f.clock_count;
+  span_count = r.0 ∙ f.span_count;
+  events = f.events;
+  time = f.time;
+  clocks = f.clocks;
+  spans = each_turned SameSpan (λ n. FitsSpan old.events) (λ n. FitsSpan old.events) old.spans.items ys.spans.items r (λ k x y q p. span_fits old.events k x y q p) f.spans;
+  frames = f.frames;
+  room = room;
+  puts = each_turned SameSpan (λ n. SpanPutBy old.last_put) (λ n. SpanPutBy old.last_put) old.spans.items ys.spans.items r (λ k x y q p. span_put old.last_put k x y q p) f.puts;
+  put = f.put;
+})
+
+fewer_end : (k n : ℕ) (end : EndState) → k ≤ n → HasEndRoom n end → HasEndRoom k end
+fewer_end k n end l h = record { waiting = omega (arith, h.waiting, l); marks = omega (arith, h.marks, l) }
+
+-- memory for steps is memory for fewer
+pub fewer_steps : (k n : ℕ) (spans : List Span) → k ≤ n → Each (λ i. HasSpanRoom n) spans → Each (λ i. HasSpanRoom k) spans
+fewer_steps k n spans l h i span at =
+    let it = h i span at in record { master = fewer_end k n span.master l it.master; slave = fewer_end k n span.slave l it.slave }

@@ -29,7 +29,7 @@ use Rattle.wrp_course.specs.Given.{Given, end_told, mover_of, sending}
 use Rattle.wrp_plant.specs.Moves.{EachBecame, Where}
 use Rattle.wrp_plant.specs.Plant.{EndIs, PutOutIs}
 use Rattle.wrp_plant.specs.PlantTold.{IsPortOf, IsSent, TellsAt, TellsIn, TellsPort, mark_of, put_at}
-use Rattle.wrp_plant.specs.Room.{HasSpanRoom}
+use Rattle.wrp_plant.specs.EndRoom.{HasSpanRoom}
 use Rattle.wrp_course.specs.Setting.{Setting, end_of, is_of}
 use Rattle.wrp_course.specs.WorldAt.{WorldAt, EndAt}
 

@@ -1,8 +1,9 @@
 -- What a node's step makes of a plant: as of the state that the plant stands for, with numbers in their sizes and memory
 -- for the steps that are left.
-use Rattle.std.proofs.Common.{◌≡◌, ◌∙◌, refl, ap, sym, subst, ℕ, zero, suc, ◌*◌, ◌==◌, ◌≤◌, ◌<◌, ◌^◌, ◌⊎◌, inl, inr, ℤ, pos, ◌+ℤ◌, ◌*ℤ◌, unsigned_abs, Bool, true, false, if◌then◌else◌, List, [], ◌∷◌, ◌++◌, length, map, Option, None, Some, slice_get, arith, lit<}
+use Rattle.std.proofs.Common.{◌≡◌, ◌∙◌, refl, ap, sym, subst, ℕ, zero, suc, ◌+◌, ◌*◌, ◌==◌, ◌≤◌, ◌<◌, ◌^◌, ◌⊎◌, inl, inr, ℤ, pos, ◌+ℤ◌, ◌*ℤ◌, ◌≤ℤ◌, unsigned_abs, Bool, true, false, if◌then◌else◌, List, [], ◌∷◌, ◌++◌, length, map, Option, None, Some, slice_get, arith, lit<}
 use Rattle.std.proofs.Math.Nat.{mul-le-mul}
 use Rattle.std.proofs.lemmas.Int.{unsigned_abs-mul}
+use Rattle.std.proofs.lemmas.Bool.{true≢false}
 use Rattle.std.proofs.lemmas.Option.{none-some, same_Some}
 use Rattle.wrp_base.specs.Clock.{period_of}
 use Rattle.wrp_base.specs.declared.configuration.NetCfg.{NetCfg}
@@ -28,9 +29,13 @@ use Rattle.wrp_plant.specs.declared.plant.told.News.{News}
 use Rattle.wrp_course.proofs.DroppedFrames.{still}
 use Rattle.wrp_plant.proofs.RoomKept.{where_room}
 use Rattle.wrp_course.specs.Given.{Given, clock_told, stepped_by, ticked_by}
+use Rattle.wrp_node.specs.declared.interface.Output.TheVariants.{Send, Step as StepOf}
+use Rattle.wrp_plant.specs.EndRoom.{PutBy, SpanPutBy}
+use Rattle.wrp_plant.specs.Room.{HasRoom}
+use Rattle.wrp_plant.proofs.PutsKept.{later_still, never_later}
 use Rattle.wrp_plant.specs.Moves.{Where, At}
 use Rattle.wrp_plant.specs.Plant.{Each, FitsClock, FitsEnd, FitsFrames, FitsPlant, FitsSpan, FramesAre, PlantIs, SpanIs}
-use Rattle.wrp_plant.specs.PlantTold.{IsStepOf, MayStep, Steps, Told, TellsIn, TellsPort, TellsAt, cycles_in, put_at}
+use Rattle.wrp_plant.specs.PlantTold.{IsStepOf, MayStep, Steps, Told, TellsIn, TellsPort, TellsAt, cycles_in, less_one, put_at, sends}
 use Rattle.wrp_course.specs.Setting.{Setting}
 use Rattle.wrp_plant.specs.Sizes.{IsDelayBy, IsOffBy, IsTimeBy}
 use Rattle.wrp_course.specs.WorldAt.{WorldAt}
@@ -162,8 +167,75 @@ told_clocks news outs old new c m f n y e =
     where_room (n == news.node) (Steps (cycles_in outs) old.time (period_of old.net.cfg.clock) news.ticked) (FitsClock old.events) it.0 y it.2
     (λ r h. clock_fits old.events (cycles_in outs) old.time old.net.cfg.clock news.ticked it.0 y f.time (move_at outs old n it.0 it.1 m) r h) (f.clocks n it.0 it.1)
 
-pub told_fits : (news : News) (outs : List Output) (old new : Plant) → Told news outs old new → MayStep outs old → FitsPlant old → FitsPlant new
-told_fits news outs old new c m f = record {
+-- The memory for the steps that are left, and when a frame was put out last
+
+spare_kept : (old new : Plant) → ((k : ℕ) → HasRoom (k + 1) old → HasRoom k new) → HasRoom 1 old → (n : ℕ) → HasRoom n old → HasRoom (less_one n) new
+spare_kept old new room one zero h = room 0 one
+spare_kept old new room one (suc n) h = let next : suc n ≡ n + 1 = omega arith in room n (subst (λ k. HasRoom k old) next h)
+
+put_by_now : (b : Bool) (before now : ℤ) → before ≤ℤ now → (if b then now else before) ≤ℤ now
+put_by_now true before now h = never_later now
+put_by_now false before now h = h
+
+put_no_sooner : (b : Bool) (before now : ℤ) → before ≤ℤ now → before ≤ℤ (if b then now else before)
+put_no_sooner true before now h = h
+put_no_sooner false before now h = never_later before
+
+-- a frame that is sent is put out now; where none is sent none waits more
+sent_by : (now z : ℤ) → now ≤ℤ z → (fs : List (List ℕ)) (i : ℕ) (out : PutOut) → slice_get (map (put_at now) fs) i ≡ Some out → out.at ≤ℤ z
+sent_by now z h [] i out g = absurd (none-some out g)
+sent_by now z h (f ∷ fs) zero out g = subst (λ (o : PutOut). o.at ≤ℤ z) (same_Some (put_at now f) out g) h
+sent_by now z h (f ∷ fs) (suc i) out g = sent_by now z h fs i out g
+
+none_sent : (p : ℕ) (outs : List Output) → sends outs ≡ false → frames_at p outs ≡ []
+none_sent p [] e = refl
+none_sent p (Send q frame ∷ outs) e = absurd (true≢false e)
+none_sent p (StepOf cycles ∷ outs) e = none_sent p outs e
+none_sent p (out ∷ outs) e = none_sent p outs e
+
+sent_put : (b : Bool) (before now : ℤ) (outs : List Output) (p i : ℕ) (out : PutOut) → sends outs ≡ b →
+    slice_get (map (put_at now) (frames_at p outs)) i ≡ Some out → out.at ≤ℤ (if b then now else before)
+sent_put true before now outs p i out e g = sent_by now now (never_later now) (frames_at p outs) i out g
+sent_put false before now outs p i out e g = absurd (none-some out (sym (ap (λ fs. slice_get (map (put_at now) fs) i) (none_sent p outs e)) ∙ g))
+
+put_append : (z : ℤ) (xs ys : List PutOut) → ((i : ℕ) (out : PutOut) → slice_get xs i ≡ Some out → out.at ≤ℤ z) →
+    ((i : ℕ) (out : PutOut) → slice_get ys i ≡ Some out → out.at ≤ℤ z) → (i : ℕ) (out : PutOut) → slice_get (xs ++ ys) i ≡ Some out → out.at ≤ℤ z
+put_append z [] ys h k i out e = k i out e
+put_append z (x ∷ xs) ys h k zero out e = h zero out e
+put_append z (x ∷ xs) ys h k (suc i) out e = put_append z xs ys (λ j y f. h (suc j) y f) k i out e
+
+end_put : (b : Bool) (before now : ℤ) (news : News) (outs : List Output) (p : ℕ) (x y : EndState) → sends outs ≡ b → before ≤ℤ now →
+    TellsPort now news outs p x y → PutBy before x → PutBy (if b then now else before) y
+end_put b before now news outs p x y e l r h i out g =
+    put_append (if b then now else before) x.waiting.items (map (put_at now) (frames_at p outs))
+    (λ j o f. later_still o.at before (if b then now else before) (h j o f) (put_no_sooner b before now l))
+    (λ j o f. sent_put b before now outs p j o e f) i out (sym (ap (λ l. slice_get l i) r.waiting) ∙ g)
+
+later_put : (b : Bool) (before now : ℤ) (x : EndState) → before ≤ℤ now → PutBy before x → PutBy (if b then now else before) x
+later_put b before now x l h i out g = later_still out.at before (if b then now else before) (h i out g) (put_no_sooner b before now l)
+
+where_put : (c b : Bool) (before now : ℤ) (news : News) (outs : List Output) (p : ℕ) (x y : EndState) → sends outs ≡ b → before ≤ℤ now →
+    Where c (TellsPort now news outs p) x y → PutBy before x → PutBy (if b then now else before) y
+where_put true b before now news outs p x y e l r h = end_put b before now news outs p x y e l r h
+where_put false b before now news outs p x y e l r h = subst (PutBy (if b then now else before)) (sym r) (later_put b before now x l h)
+
+span_put_by : (b : Bool) (before now : ℤ) (news : News) (outs : List Output) (o : Option LinkCfg) (x y : Span) → sends outs ≡ b → before ≤ℤ now →
+    TellsIn now news outs o x y → SpanPutBy before x → SpanPutBy (if b then now else before) y
+span_put_by b before now news outs None x y e l r h =
+    subst (SpanPutBy (if b then now else before)) (sym r) (record { master = later_put b before now x.master l h.master; slave = later_put b before now x.slave l h.slave })
+span_put_by b before now news outs (Some link) x y e l r h = record {
+  master = where_put (link.upper == news.node) b before now news outs link.upper_port x.master y.master e l r.master h.master;
+  slave = where_put (link.lower == news.node) b before now news outs link.lower_port x.slave y.slave e l r.slave h.slave;
+}
+
+span_put : (b : Bool) (before after now : ℤ) (news : News) (outs : List Output) (o : Option LinkCfg) (x y : Span) → sends outs ≡ b →
+    after ≡ (if b then now else before) → before ≤ℤ now → TellsIn now news outs o x y → SpanPutBy before x → SpanPutBy after y
+span_put b before after now news outs o x y e put l r h = subst (λ z. SpanPutBy z y) (sym put) (span_put_by b before now news outs o x y e l r h)
+
+pub told_fits : (news : News) (outs : List Output) (old new : Plant) → Told news outs old new → MayStep outs old →
+    ((k : ℕ) → HasRoom (k + 1) old → HasRoom k new) → HasRoom 1 old → new.spare ≡ less_one old.spare →
+    new.last_put ≡ (if sends outs then old.time else old.last_put) → FitsPlant old → FitsPlant new
+told_fits news outs old new c m room one spare put f = record {
   accepted = subst (λ (g : NetCfg). IsAccepted g new.net.db) (sym c.cfg) (subst (λ (d : Database). IsAccepted old.net.cfg d) (sym c.db) f.accepted);
   clock_count = c.of_clocks.0 ∙ f.clock_count ∙ ap (λ (g : NetCfg). length g.nodes.items) (sym c.cfg);
   span_count = c.of_spans.0 ∙ f.span_count ∙ ap (λ (g : NetCfg). length g.links.items) (sym c.cfg);
@@ -177,4 +249,9 @@ told_fits news outs old new c m f = record {
   frames =
       subst (λ (g : NetCfg). FitsFrames (length g.links.items) new.events new.frames) (sym c.cfg)
       (subst (λ n. FitsFrames (length old.net.cfg.links.items) n new.frames) (sym c.count) (subst (FitsFrames (length old.net.cfg.links.items) old.events) (sym c.of_frames) f.frames));
+  room = subst (λ n. HasRoom n new) (sym spare) (spare_kept old new room one old.spare f.room);
+  puts =
+      each_turned (TellsAt old.time news outs old.net.cfg.links.items) (λ n. SpanPutBy old.last_put) (λ n. SpanPutBy new.last_put) old.spans.items new.spans.items c.of_spans
+      (λ k x y r h. span_put (sends outs) old.last_put new.last_put old.time news outs (slice_get old.net.cfg.links.items k) x y refl put f.put r h) f.puts;
+  put = subst (λ z. new.last_put ≤ℤ z) (sym c.time) (subst (λ z. z ≤ℤ old.time) (sym put) (put_by_now (sends outs) old.last_put old.time f.put));
 }

@@ -1,5 +1,6 @@
 pub mod Begins
 pub mod Changes
+pub mod EndRoom
 pub mod FirstPort
 pub mod FitsGifts
 pub mod Flights

@@ -133,3 +133,5 @@ pub record Changed (clocks : List ClockState → List ClockState → Type 0) (sp
   pub of_clocks : clocks old.clocks.items new.clocks.items
   pub of_spans : spans old.spans.items new.spans.items
   pub of_frames : frames old.frames new.frames
+  pub spare : new.spare ≡ old.spare
+  pub last_put : new.last_put ≡ old.last_put

@@ -1,5 +1,5 @@
 -- All of a world but its nodes, as the code keeps it, and the state that it stands for (this project's profile).
-use Rattle.std.specs.Prelude.{◌≡◌, ◌<◌, ◌≤◌, ◌^◌, ◌||◌, ◌+ℤ◌, ◌-ℤ◌, ℕ, ℤ, pos, Bool, false, if◌then◌else◌, List, length, reverse, Option, None, Some, IfSome, option_map, slice_get}
+use Rattle.std.specs.Prelude.{◌≡◌, ◌<◌, ◌≤◌, ◌≤ℤ◌, ◌^◌, ◌||◌, ◌+ℤ◌, ◌-ℤ◌, ℕ, ℤ, pos, Bool, false, if◌then◌else◌, List, length, reverse, Option, None, Some, IfSome, option_map, slice_get}
 use Rattle.std.specs.Int.Signed.{le_z}
 use Rattle.std.specs.List.{AllZip}
 use Rattle.wrp_base.specs.declared.link.Role.{Role}
@@ -17,6 +17,7 @@ use Rattle.wrp_plant.specs.declared.ends.PutOut.{PutOut}
 use Rattle.wrp_plant.specs.declared.ends.Span.{Span}
 use Rattle.wrp_plant.specs.declared.plant.Plant.{Plant}
 use Rattle.wrp_course.specs.EventAt.{IsRaw}
+use Rattle.wrp_plant.specs.EndRoom.{HasSpanRoom, SpanPutBy}
 use Rattle.wrp_course.specs.Setting.{Setting}
 use Rattle.wrp_plant.specs.Sizes.{IsTimeBy, IsHorizonBy, IsOffBy, IsDelayBy, IsDueBy}
 use Rattle.wrp_course.specs.WorldAt.{WorldAt, EndAt, FrameAt, Arrival, Sending, is_on_fibre}
@@ -134,7 +135,8 @@ pub record FitsFrames (links events : ℕ) (frames : FramesAt) : Type 0 where
   pub sent : (i : ℕ) (t : ℤ) → sent_at i frames.sent ≡ Some t → IsTimeBy events t
   pub each : (i : ℕ) (d : Departed) → at i frames.kept ≡ Some d → FitsDeparted links events d
 
--- an accepted network, a clock for each node, a state for each link, and numbers in their ranges
+-- an accepted network, a clock for each node, a state for each link, numbers in their ranges, places at each end for the
+-- steps that are spare, and no frame that waits and was put out later than the last
 pub record FitsPlant (plant : Plant) : Type 0 where
   pub accepted : IsAccepted plant.net.cfg plant.net.db
   pub clock_count : length plant.clocks.items ≡ length plant.net.cfg.nodes.items
@@ -144,3 +146,6 @@ pub record FitsPlant (plant : Plant) : Type 0 where
   pub clocks : Each (λ n. FitsClock plant.events) plant.clocks.items
   pub spans : Each (λ k. FitsSpan plant.events) plant.spans.items
   pub frames : FitsFrames (length plant.net.cfg.links.items) plant.events plant.frames
+  pub room : Each (λ k. HasSpanRoom plant.spare) plant.spans.items
+  pub puts : Each (λ k. SpanPutBy plant.last_put) plant.spans.items
+  pub put : plant.last_put ≤ℤ plant.time

@@ -1,5 +1,5 @@
 -- What a node's step makes of all of a world but its nodes, as the code keeps it (this project's profile).
-use Rattle.std.specs.Prelude.{◌≡◌, ◌≤◌, ◌==◌, ◌⊎◌, ◌+ℤ◌, ◌*ℤ◌, ◌*◌, ◌^◌, ℕ, ℤ, pos, Bool, if◌then◌else◌, unsigned_abs, List, [], ◌∷◌, ◌++◌, length, map, Option, None, Some, slice_get}
+use Rattle.std.specs.Prelude.{◌≡◌, ◌≤◌, ◌==◌, ◌⊎◌, ◌+ℤ◌, ◌*ℤ◌, ◌*◌, ◌^◌, ℕ, zero, suc, ℤ, pos, Bool, true, false, if◌then◌else◌, unsigned_abs, List, [], ◌∷◌, ◌++◌, length, map, Option, None, Some, slice_get}
 use Rattle.std.specs.List.{AllZip}
 use Rattle.wrp_base.specs.Clock.{period_of}
 use Rattle.wrp_base.specs.declared.link.LinkState.{LinkState}
@@ -13,7 +13,7 @@ use Rattle.wrp_frame.specs.Grammar.{Spells}
 use Rattle.wrp_frame.specs.SentOctets.{octets_of}
 use Rattle.wrp_link.specs.Table.{is_same}
 use Rattle.wrp_node.specs.declared.interface.Output.{Output}
-use Rattle.wrp_node.specs.declared.interface.Output.TheVariants.{Step as StepOf}
+use Rattle.wrp_node.specs.declared.interface.Output.TheVariants.{Send, Step as StepOf}
 use Rattle.wrp_node.specs.Node.{is_tick}
 use Rattle.wrp_node.specs.NodeAt.{link_at}
 use Rattle.wrp_node.specs.Sends.{frames_at}
@@ -38,6 +38,18 @@ abbrev pub cycles_in : List Output → ℤ
 cycles_in [] = pos 0
 cycles_in (StepOf cycles ∷ outs) = cycles
 cycles_in (out ∷ outs) = cycles_in outs
+
+-- whether a frame is among the outputs
+abbrev pub sends : List Output → Bool
+sends [] = false
+sends (Send port frame ∷ outs) = true
+sends (out ∷ outs) = sends outs
+
+-- What it makes of the memory that was taken
+
+abbrev pub less_one : ℕ → ℕ
+less_one zero = 0
+less_one (suc n) = n
 
 -- What it makes of the clock
 

@@ -1,19 +1,10 @@
 -- Memory that is taken before it is used, at each end of each link (this project's profile).
-use Rattle.std.specs.Prelude.{◌≡◌, ◌≤◌, ◌+◌, ◌*◌, ℕ, vec_len, vec_capacity}
+use Rattle.std.specs.Prelude.{◌≡◌, ℕ}
 use Rattle.wrp_plant.specs.declared.ends.EndState.{EndState}
 use Rattle.wrp_plant.specs.declared.ends.Span.{Span}
 use Rattle.wrp_plant.specs.declared.plant.Plant.{Plant}
+use Rattle.wrp_plant.specs.EndRoom.{HasSpanRoom}
 use Rattle.wrp_plant.specs.Plant.{Each}
-
--- an end has places for what its port may send in so many steps of its node, at most four frames in each, and for a mark
--- at each
-pub record HasEndRoom (steps : ℕ) (end : EndState) : Type 0 where
-  pub waiting : vec_len end.waiting + 4 * steps ≤ vec_capacity end.waiting
-  pub marks : vec_len end.marks + steps ≤ vec_capacity end.marks
-
-pub record HasSpanRoom (steps : ℕ) (span : Span) : Type 0 where
-  pub master : HasEndRoom steps span.master
-  pub slave : HasEndRoom steps span.slave
 
 -- each end of each link has places for so many steps of nodes
 abbrev pub HasRoom : ℕ → Plant → Type 0

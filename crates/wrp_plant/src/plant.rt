@@ -33,4 +33,8 @@ pub struct Plant {
     pub spans: Vec<Span>,
     /// The frames that departed.
     pub frames: Frames,
+    /// For so many steps of nodes each end of each link has places.
+    pub spare: u8,
+    /// No frame that waits was put out later.
+    pub last_put: Tau,
 }

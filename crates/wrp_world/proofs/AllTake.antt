@@ -17,7 +17,8 @@ use Rattle.wrp_plant.specs.declared.plant.Plant.{Plant}
 use Rattle.wrp_plant.specs.FitsGifts.{FitsGift}
 use Rattle.wrp_plant.specs.Gifts.{GiftIs}
 use Rattle.wrp_course.specs.Given.{Given, NodeStepAt, gives, gives_all, node_step_of, steps_of}
-use Rattle.wrp_plant.specs.Room.{HasEndRoom, HasRoom, HasSpanRoom}
+use Rattle.wrp_plant.specs.EndRoom.{HasEndRoom, HasSpanRoom}
+use Rattle.wrp_plant.specs.Room.{HasRoom}
 use Rattle.wrp_course.specs.Setting.{Setting}
 use Rattle.wrp_world.specs.StandsFor.{IsValid, StandsFor, WorldOf}
 use Rattle.wrp_world.specs.Step.{step_seen}

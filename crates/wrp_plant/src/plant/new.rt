@@ -44,6 +44,8 @@ impl Plant {
             clocks,
             spans,
             frames: Frames::new(alloc, horizon),
+            spare: 0,
+            last_put: start,
         })
     }
 }

@@ -124,8 +124,8 @@ impl Plant {
         }
     }
 
-    /// Whether a frame that was put out now is the oldest that waits at an end of a link.
-    pub fn puts_out_now(&self) -> bool
+    // Whether a frame that was put out now is the oldest that waits at an end of a link: all are asked.
+    fn puts_out_anywhere(&self) -> bool
         requires { FitsPlant self.now }
         ensures { (s : Setting) (w : WorldAt) → PlantIs s w self.now → result ≡ puts_out s w }
     {
@@ -136,6 +136,18 @@ impl Plant {
             }
         }
         false
+    }
+
+    /// Whether a frame that was put out now is the oldest that waits at an end of a link.
+    pub fn puts_out_now(&self) -> bool
+        requires { FitsPlant self.now }
+        ensures { (s : Setting) (w : WorldAt) → PlantIs s w self.now → result ≡ puts_out s w }
+    {
+        if self.last_put == self.time {
+            self.puts_out_anywhere()
+        } else {
+            false
+        }
     }
 
     // The sooner of a port and that at an end, where the oldest frame that waits there was put out now.

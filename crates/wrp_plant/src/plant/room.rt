@@ -2,13 +2,17 @@
 ghost use Rattle.std.specs.Prelude.{◌≡◌, ◌≤◌, ◌+◌, ℕ, true, OnOk};
 ghost use Rattle.wrp_plant.specs.Moves.{EachBecame};
 ghost use Rattle.wrp_plant.specs.Plant.{Each, FitsPlant, PlantIs};
-ghost use Rattle.wrp_plant.specs.Room.{HasEndRoom, HasRoom, HasSpanRoom, SameEnd, SameSpan};
+ghost use Rattle.wrp_plant.specs.EndRoom.{HasEndRoom, HasSpanRoom};
+ghost use Rattle.wrp_plant.specs.Room.{HasRoom, SameEnd, SameSpan};
 ghost use Rattle.wrp_course.specs.Setting.{Setting};
 ghost use Rattle.wrp_course.specs.WorldAt.{WorldAt};
 
 use super::Plant;
 use crate::ends::{EndState, Span};
 use std::alloc::AllocError;
+
+/// For so many steps places are taken at least, so that the ends are seldom looked at.
+const STEPS: u8 = 8;
 
 // Whether an end has places for so many steps.
 fn has_places(end: &EndState, steps: u8) -> bool
@@ -66,9 +70,16 @@ fn reserve(spans: &mut Vec<Span>, steps: u8) -> Result<(), AllocError>
     Ok(())
 }
 
+// For how many steps places are taken at once, where they are needed for so many.
+fn at_once(steps: u8) -> u8
+    ensures { steps ≤ result }
+{
+    if steps < STEPS { STEPS } else { steps }
+}
+
 impl Plant {
     /// Takes the memory that so many steps of nodes may need: at each end of each link, places for four
-    /// frames and a mark a step; no end is looked at where there is no step. Nothing else changes, also where
+    /// frames and a mark a step; no end is looked at where all are known to have them. Nothing else changes, also where
     /// memory could not be had.
     pub fn reserve(&mut self, steps: u8) -> Result<(), AllocError>
         requires fits { FitsPlant self.old }
@@ -83,9 +94,12 @@ impl Plant {
         ensures spans { EachBecame SameSpan self.old.spans.items self.new.spans.items }
         ensures frames { self.new.frames ≡ self.old.frames }
     {
-        if steps == 0 {
+        if steps <= self.spare {
             return Ok(());
         }
-        reserve(&mut self.spans, steps)
+        let places = at_once(steps);
+        reserve(&mut self.spans, places)?;
+        self.spare = places;
+        Ok(())
     }
 }

@@ -3,14 +3,15 @@ mod clock;
 pub mod ends;
 mod reads;
 
-ghost use Rattle.std.specs.Prelude.{◌≡◌, ◌<◌, ◌+◌, ℕ, length};
+ghost use Rattle.std.specs.Prelude.{◌≡◌, ◌<◌, ◌+◌, ℕ, length, if◌then◌else◌};
 ghost use Rattle.wrp_node.specs.NodeAt.{Taken};
 ghost use Rattle.wrp_node.specs.Telling.{Step};
 ghost use Rattle.wrp_course.specs.Given.{Given, stepped_by};
 ghost use Rattle.wrp_plant.specs.Plant.{FitsPlant, PlantIs};
-ghost use Rattle.wrp_plant.specs.PlantTold.{IsStepOf, MayStep, SendsFew, Told};
+ghost use Rattle.wrp_plant.specs.PlantTold.{IsStepOf, MayStep, SendsFew, Told, less_one, sends};
 ghost use Rattle.wrp_plant.specs.Room.{HasRoom};
 ghost use Rattle.wrp_course.specs.Setting.{Setting};
+ghost use Rattle.wrp_plant.specs.Sizes.{IsTime};
 ghost use Rattle.wrp_course.specs.WorldAt.{WorldAt};
 
 use super::Plant;
@@ -33,6 +34,27 @@ pub struct News {
     pub by: Option<(WrMsg, Tau)>,
 }
 
+// One less, if there is one.
+fn one_less(spare: u8) -> u8
+    ensures { result ≡ less_one spare }
+{
+    if spare == 0 { 0 } else { spare - 1 }
+}
+
+// It is noted whether a frame is put out now, and that places for a step are taken.
+fn note(plant: &mut Plant, sends: bool)
+    requires { IsTime plant.old.time }
+    ensures { plant.new ≡ record plant.old {
+      last_put = if sends then plant.old.time else plant.old.last_put;
+      spare = less_one plant.old.spare;
+    } }
+{
+    if sends {
+        plant.last_put = plant.time;
+    }
+    plant.spare = one_less(plant.spare);
+}
+
 // A node's step is told to all parts.
 fn tell(plant: &mut Plant, news: &News, outs: &[Output])
     requires fits { FitsPlant plant.old }
@@ -42,6 +64,8 @@ fn tell(plant: &mut Plant, news: &News, outs: &[Output])
     requires room { HasRoom 1 plant.old }
     ensures told { Told news.now outs.now plant.old plant.new }
     ensures room { (k : ℕ) → HasRoom (k + 1) plant.old → HasRoom k plant.new }
+    ensures put { plant.new.last_put ≡ (if sends outs.now then plant.old.time else plant.old.last_put) }
+    ensures spare { plant.new.spare ≡ less_one plant.old.spare }
 {
     let cycles = reads::cycles_in(outs);
     let kind = plant.net.cfg.clock;
@@ -54,6 +78,7 @@ fn tell(plant: &mut Plant, news: &News, outs: &[Output])
         plant.time,
     );
     ends::tell(&mut plant.spans, &plant.net.cfg, plant.time, news, outs);
+    note(plant, reads::sends(outs));
 }
 
 impl Plant {

@@ -4,7 +4,7 @@ ghost use Rattle.wrp_node.specs.Sends.{frames_at};
 ghost use Rattle.wrp_plant.specs.Moves.{EachBecame, Where};
 ghost use Rattle.wrp_plant.specs.Plant.{Each};
 ghost use Rattle.wrp_plant.specs.PlantTold.{SendsFew, TellsAt, TellsPort, TellsSpan, mark_of, put_at};
-ghost use Rattle.wrp_plant.specs.Room.{HasEndRoom, HasSpanRoom};
+ghost use Rattle.wrp_plant.specs.EndRoom.{HasEndRoom, HasSpanRoom};
 
 use super::News;
 use super::reads::{is_same, state_in};

@@ -2,7 +2,7 @@
 ghost use Rattle.std.specs.Prelude.{◌≡◌};
 ghost use Rattle.wrp_link.specs.Table.{is_same};
 ghost use Rattle.wrp_node.specs.States.{state_in};
-ghost use Rattle.wrp_plant.specs.PlantTold.{cycles_in};
+ghost use Rattle.wrp_plant.specs.PlantTold.{cycles_in, sends};
 
 use wrp_base::LinkState;
 use wrp_node::{Output, PortState};
@@ -17,6 +17,18 @@ pub fn cycles_in(outs: &[Output]) -> i64
         }
     }
     0
+}
+
+/// Whether a frame is among the outputs.
+pub fn sends(outs: &[Output]) -> bool
+    ensures { result ≡ sends outs.now }
+{
+    for out in outs {
+        if let Output::Send { .. } = out {
+            return true;
+        }
+    }
+    false
 }
 
 /// The link state of a port among these, IDLE where it is not among them.

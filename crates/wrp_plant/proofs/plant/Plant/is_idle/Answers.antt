@@ -1,4 +1,4 @@
-use Rattle.std.proofs.Common.{◌≡◌, ◌∙◌, sym, ap₂, ◌||◌, Option, ℤ}
+use Rattle.std.proofs.Common.{◌∙◌, sym, ap₂, ◌||◌, Option, ℤ}
 use Rattle.wrp_base.specs.declared.link.Role.TheVariants.{Master, Slave}
 use Rattle.wrp_plant.specs.Plant.{SpanIs}
 use Rattle.wrp_plant.specs.PutOut.{is_now}

@@ -7,7 +7,9 @@ use Rattle.wrp_caldb.specs.Database.{Database}
 use Rattle.wrp_plant.specs.New.{IsSpanOf, new_clock}
 use Rattle.wrp_plant.specs.Plant.{Each}
 use Rattle.wrp_plant.specs.Sizes.{IsHorizonBy, IsTimeBy}
-use Rattle.wrp_plant.proofs.NewPlants.{new_plant, clocks_fit, spans_fit, frames_fit}
+use Rattle.wrp_plant.proofs.NewPlants.{new_plant, clocks_fit, spans_fit, frames_fit, none_put}
+use Rattle.wrp_plant.proofs.PutsKept.{never_later}
+use Rattle.wrp_plant.proofs.Roomy.{no_steps}
 use Rattle.wrp_plant.proofs.SignedReads.{read}
 use Rattle.wrp_plant.proofs.plant.Plant.new.Goals as goal
 
@@ -46,4 +48,7 @@ returns-clause-fits c =
       clocks = clocks_fit _ c.in_ok-clocks.clocks.items time c.in_ok-clocks.ensures.each;
       spans = spans_fit c.args.net.db c.as_slice.result.now c.in_ok-spans.spans.items c.in_ok-spans.ensures.count c.in_ok-spans.ensures.each;
       frames = frames_fit (length c.args.net.cfg.links.items) _ c.new.result c.new.ensures (subst (IsHorizonBy 0) (sym horizon) c.horizon_of-horizon.ensures.size);
+      room = no_steps 0 c.in_ok-spans.spans.items refl;
+      puts = none_put _ c.args.net.db c.as_slice.result.now c.in_ok-spans.spans.items c.in_ok-spans.ensures.count c.in_ok-spans.ensures.each;
+      put = never_later _;
     }

@@ -17,7 +17,7 @@ returns-clause-is c s w h =
 pub returns-clause-fits : goal.returns-clause-fits
 returns-clause-fits c =
     let size : unsigned_abs c.args.dt ≤ 2 ^ 63 = omega (arith, ints, c.ranges.dt) in
-    pass_fits c.args.drifts.now.items c.args.moves.now.items c.args.dt c.args.self.now c.pass.new.plant size
+    pass_fits c.args.drifts.now.items c.args.moves.now.items c.args.dt c.args.self.now c.pass.new.plant size c.requires.later
     (subst (λ d. Changed (EachBecame (Drifts c.args.drifts.now.items)) (EachBecame (Moves c.args.moves.now.items)) (Passes (c.args.self.now.frames.horizon +ℤ d)) (c.args.self.now.time +ℤ d) c.args.self.now c.pass.new.plant)
     (to_z-of_z w64 c.args.dt c.ranges.dt) c.pass.ensures) c.requires.few c.requires.fits
 

@@ -1,10 +1,11 @@
-use Rattle.std.proofs.Common.{◌≡◌, ◌∙◌, ℕ, ℤ, Bool, List, refl, subst, to_z, of_z, arith}
+use Rattle.std.proofs.Common.{◌≡◌, ◌∙◌, ℕ, ℤ, Bool, List, refl, sym, subst, to_z, of_z, arith}
 use Rattle.std.proofs.lemmas.Int.{to_z-of_z}
 use Rattle.std.specs.Int.{w64, w128}
 use Rattle.wrp_base.specs.Clock.{period_of}
 use Rattle.wrp_course.specs.declared.clocks.ClockState.{ClockState}
 use Rattle.wrp_plant.specs.Moves.{At, EachBecame}
-use Rattle.wrp_plant.specs.PlantTold.{Steps, TellsAt, cycles_in}
+use Rattle.wrp_plant.specs.PlantTold.{Steps, TellsAt, Told, cycles_in}
+use Rattle.wrp_plant.specs.Room.{HasRoom}
 use Rattle.wrp_plant.proofs.SignedReads.{read}
 use Rattle.wrp_plant.proofs.Sizing.{time_size}
 use Rattle.wrp_plant.proofs.plant.told.tell.Goals as goal
@@ -17,7 +18,8 @@ read_both n cycles now y z period ticked xs ys e f r =
 pub returns-clause-told : goal.returns-clause-told
 returns-clause-told c =
     let now = read c.args.plant.now.time (omega (arith, time_size c.args.plant.now.events c.args.plant.now.time c.requires.fits.events c.requires.fits.time)) in
-    record {
+    subst (Told c.args.news.now c.args.outs.now c.args.plant.now) (sym c.note.ensures)
+    (record {
       cfg = refl;
       db = refl;
       time = refl;
@@ -31,4 +33,8 @@ returns-clause-told c =
           subst (λ t. EachBecame (TellsAt t c.args.news.now c.args.outs.now c.args.plant.now.net.cfg.links.items) c.args.plant.now.spans.items c.tell.new.spans.items)
           now c.tell.ensures.told;
       of_frames = refl;
-    }
+    })
+
+pub returns-clause-room : goal.returns-clause-room
+returns-clause-room c k h =
+    subst (HasRoom k) (sym c.note.ensures) (c.tell.ensures.room k h)

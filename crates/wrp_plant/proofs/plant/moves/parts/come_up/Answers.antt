@@ -26,4 +26,6 @@ returns c =
           subst (λ l. EachBecame (SwapsAt c.args.n l c.args.plant.now.net.cfg.links.items) c.args.plant.now.spans.items c.put_modules.new.spans.items)
           c.as_slice.ensures.value c.put_modules.ensures;
       of_frames = refl;
+      spare = refl;
+      last_put = refl;
     })

@@ -17,4 +17,6 @@ returns c =
           subst (λ z. EachBecame (At c.args.k (Joins z c.args.sm)) c.args.plant.now.spans.items c.join.new.spans.items) (to_z-of_z w128 c.args.ms c.ranges.ms)
           (subst (λ z. EachBecame (At c.args.k (Joins (to_z w128 (of_z w128 c.args.ms)) z)) c.args.plant.now.spans.items c.join.new.spans.items) (to_z-of_z w128 c.args.sm c.ranges.sm) c.join.ensures);
       of_frames = refl;
+      spare = refl;
+      last_put = refl;
     })

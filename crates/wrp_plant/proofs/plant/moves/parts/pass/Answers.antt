@@ -24,4 +24,6 @@ returns c =
       of_clocks = subst (λ l. EachBecame (Drifts l) c.args.plant.now.clocks.items c.drift.new.clocks.items) c.as_slice.ensures.value c.drift.ensures;
       of_spans = subst (λ l. EachBecame (Moves l) c.args.plant.now.spans.items c.move_fibres.new.spans.items) c.as_slice-2.ensures.value c.move_fibres.ensures;
       of_frames = subst (λ d. Passes (c.args.plant.now.frames.horizon +ℤ d) c.args.plant.now.frames c.pass.new.self) (to_z-of_z w64 c.args.dt c.ranges.dt) c.pass.ensures;
+      spare = refl;
+      last_put = refl;
     })

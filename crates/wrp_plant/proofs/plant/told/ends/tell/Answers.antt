@@ -3,7 +3,7 @@ use Rattle.std.proofs.lemmas.Int.{to_z-of_z}
 use Rattle.std.specs.Int.{w128}
 use Rattle.wrp_plant.specs.Moves.{EachBecame}
 use Rattle.wrp_plant.specs.PlantTold.{TellsAt}
-use Rattle.wrp_plant.specs.Room.{HasSpanRoom}
+use Rattle.wrp_plant.specs.EndRoom.{HasSpanRoom}
 use Rattle.wrp_plant.proofs.TellingEnds.{TellsWithRoom, told_of_turned}
 use Rattle.wrp_plant.proofs.Turned.{turned_next, turned_all, each_turned}
 use Rattle.wrp_plant.proofs.plant.told.ends.tell.Goals as goal

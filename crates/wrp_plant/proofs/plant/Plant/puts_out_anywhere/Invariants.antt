@@ -6,7 +6,7 @@ use Rattle.wrp_plant.specs.Plant.{PlantIs}
 use Rattle.wrp_plant.specs.PutOut.{puts_out_at}
 use Rattle.wrp_course.specs.Setting.{Setting, from_on}
 use Rattle.wrp_course.specs.WorldAt.{WorldAt}
-use Rattle.wrp_plant.proofs.plant.Plant.puts_out_now.Given as goal
+use Rattle.wrp_plant.proofs.plant.Plant.puts_out_anywhere.Given as goal
 
 abbrev pub invariant-loop-k : goal.invariant-loop-k
 invariant-loop-k l =
