@@ -1,18 +1,22 @@
 //! The numbers that stand in the events of the simulator.
-ghost use Rattle.std.specs.Prelude.{◌≡◌, ◌<◌, ◌≤◌, ◌≤ℤ◌, ◌^◌, ◌*ℤ◌, ◌*◌, pos, unsigned_abs, IfSome};
+ghost use Rattle.std.specs.Prelude.{◌≡◌, ◌<◌, ◌≤◌, ◌≤ℤ◌, ◌^◌, ◌-ℤ◌, ◌*ℤ◌, ◌*◌, pos, unsigned_abs, IfSome};
 ghost use Rattle.std.specs.Int.Signed.{le_z};
 ghost use Rattle.std.specs.Ordering.{int_eq};
 ghost use Rattle.wrp_base.specs.Clock.{period_of, steps_of_period};
+ghost use Rattle.wrp_base.specs.Held.{held_within};
 ghost use Rattle.wrp_phase.specs.BeatPattern as beat;
 ghost use Rattle.wrp_sim.specs.Numbers as number;
 
-use wrp_base::{Clock, Raw, Tau, difference, hold, product, sum, trunc_div};
+use wrp_base::{Clock, Raw, Tau, product, sum, trunc_div};
 
 /// Rates are in `10^-12`.
 const PARTS: i128 = 1_000_000_000_000;
 
+/// The same, in 64 bits.
+const PARTS_64: i64 = 1_000_000_000_000;
+
 /// How much one step of the DAC slows a clock, in `10^-12`.
-const DAC_RATE: i128 = 10;
+const DAC_RATE: i64 = 10;
 
 /// The detector's step in which a true phase lies.
 pub fn true_step(clock: Clock, phase: Tau) -> u16
@@ -141,36 +145,83 @@ pub fn raw_at(clock: Clock, transition: u16, at: Tau) -> Raw
     }
 }
 
+// How far a value of the DAC is above the bias.
+fn above_bias(dac: u16, bias: i64) -> i64
+    requires { unsigned_abs bias ≤ 65_535 }
+    ensures value { result ≡ pos dac -ℤ bias }
+    ensures size { unsigned_abs result ≤ 200_000 }
+{
+    i64::from(dac) - bias
+}
+
+// How much so many steps of the DAC slow a clock.
+fn slowed_by(steps: i64) -> i64
+    requires { unsigned_abs steps ≤ 200_000 }
+    ensures value { result ≡ pos 10 *ℤ steps }
+    ensures size { unsigned_abs result ≤ 2_000_000 }
+{
+    DAC_RATE * steps
+}
+
+// What a rate is less another one.
+fn less(rate: i64, by: i64) -> i64
+    requires rate { unsigned_abs rate ≤ 100_000 }
+    requires by { unsigned_abs by ≤ 2_000_000 }
+    ensures value { result ≡ rate -ℤ by }
+    ensures size { unsigned_abs result ≤ 1_000_000_000 }
+{
+    rate - by
+}
+
 /// The rate of a clock by itself, in `10^-12`: a higher value of the DAC slows it.
-pub fn own_rate(free: i64, dac: u16, bias: i64) -> i128
+pub fn own_rate(free: i64, dac: u16, bias: i64) -> i64
     requires free { unsigned_abs free ≤ 100_000 }
     requires bias { unsigned_abs bias ≤ 65_535 }
     ensures value { result ≡ number.own_rate free dac bias }
     ensures size { unsigned_abs result ≤ 1_000_000_000 }
 {
-    let tuned = product(DAC_RATE, difference(i128::from(dac), i128::from(bias)));
-    difference(i128::from(free), tuned)
+    less(free, slowed_by(above_bias(dac, bias)))
+}
+
+// A rate held within another one, either sign.
+fn hold_rate(most: i64, rate: i64) -> i64
+    requires { pos 0 ≤ℤ most }
+    ensures value { result ≡ held_within most rate }
+    ensures size { unsigned_abs result ≤ unsigned_abs most }
+{
+    rate.min(most).max(-most)
 }
 
 /// A rate held within the one that a clock keeps, if it keeps one.
-pub fn held_to(kept: Option<u64>, rate: i128) -> i128
+pub fn held_to(kept: Option<u64>, rate: i64) -> i64
     requires kept { IfSome kept (λ most. most ≤ 1_000_000_000) }
     requires rate { unsigned_abs rate ≤ 1_000_000_000 }
     ensures value { result ≡ number.held_to kept rate }
     ensures size { unsigned_abs result ≤ 1_000_000_000 }
 {
     match kept {
-        Some(most) => hold(i128::from(most), rate),
+        Some(most) => hold_rate(most as i64, rate),
         None => rate,
     }
 }
 
-/// How far a clock of this rate moves in a time.
-pub fn drift_at(dt: i64, rate: i128) -> i64
+// How far a clock of this rate moves in a time, where their product may need more than 64 bits.
+fn drift_far(dt: i64, rate: i64) -> i64
     requires { unsigned_abs rate ≤ 1_000_000_000 }
     ensures { result ≡ number.drift_at dt rate }
 {
-    trunc_div(product(i128::from(dt), rate), PARTS) as i64
+    trunc_div(product(i128::from(dt), i128::from(rate)), PARTS) as i64
+}
+
+/// How far a clock of this rate moves in a time.
+pub fn drift_at(dt: i64, rate: i64) -> i64
+    requires { unsigned_abs rate ≤ 1_000_000_000 }
+    ensures { result ≡ number.drift_at dt rate }
+{
+    match dt.checked_mul(rate) {
+        Some(scaled) => scaled / PARTS_64,
+        None => drift_far(dt, rate),
+    }
 }
 
 /// Whether a moment has come.

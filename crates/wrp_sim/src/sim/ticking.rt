@@ -1,7 +1,6 @@
 //! The ticks of nodes.
-ghost use Rattle.std.specs.Prelude.{◌≡◌, ◌<◌, ◌&&◌, length, slice_get, Some, IfSome};
+ghost use Rattle.std.specs.Prelude.{◌≡◌, ◌<◌, length, slice_get, Some, IfSome};
 ghost use Rattle.std.specs.List.{find};
-ghost use Rattle.std.specs.Ordering.{int_eq};
 ghost use Rattle.wrp_sim.specs.Rules as rule;
 ghost use Rattle.wrp_sim.specs.Sim.{FitsSim, Follows, SimIs, StaysFit, as_is, put};
 ghost use Rattle.wrp_sim.specs.SimAt.{SimAt};
@@ -13,13 +12,6 @@ use super::pure::is_at;
 use super::state::State;
 use wrp_base::Tau;
 use wrp_world::{Event, World};
-
-// Whether a node that is up or down ticks now, where this is its tick time.
-fn ticks_by(up: bool, at: Tau, now: Tau) -> bool
-    ensures { result ≡ (up && int_eq at now) }
-{
-    up && is_at(at, now)
-}
 
 impl State {
     /// When a node ticks next.
@@ -38,10 +30,13 @@ impl State {
         ensures { (s : Setting) (w : WorldAt) (at : SimAt) → StandsFor F.post s w world.now → SimIs at self.now
             → result ≡ rule.ticks_now w at n }
     {
-        let up = world.is_up(n);
         let at = self.tick_of(n);
         let now = world.time();
-        ticks_by(up, at, now)
+        if is_at(at, now) {
+            world.is_up(n)
+        } else {
+            false
+        }
     }
 
     // The first node whose tick time is now.
