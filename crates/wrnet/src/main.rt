@@ -68,6 +68,14 @@ fn collected(alloc: Global, words: Args) -> Result<Vec<String>, AllocError>
     words.collect(alloc)
 }
 
+/// Runs the words that the system gave.
+fn run_all<R: AllocGlobal + Input + Print + Net>(rt: &R, words: Args) -> Result<Status, AllocError>
+    ensures { IfOk result (MayEndOf (drop 1 (map string_bytes (into_iter_items words)))) }
+{
+    let args = collected(rt.alloc(), words)?;
+    run_args(rt, &args)
+}
+
 /// Runs what the system gives as the program's words. Words that are no UTF-8 are no command.
 fn ended<R: AllocGlobal + Input + Print + Net>(
     rt: &R,
@@ -78,7 +86,7 @@ fn ended<R: AllocGlobal + Input + Print + Net>(
     ensures no_words { IfErr args (λ error. IfOk result (MayEndOf [])) }
 {
     match args {
-        Ok(words) => run_args(rt, &collected(rt.alloc(), words)?),
+        Ok(words) => run_all(rt, words),
         Err(error) if error.kind() == io::ErrorKind::OutOfMemory => Err(AllocError),
         Err(_) => Ok(run_words(rt, &[])),
     }

@@ -5,4 +5,4 @@ use Rattle.std.proofs.lemmas.Iterator.Adapters.{YieldsList-from_vec}
 use Rattle.wrnet.proofs.collected.Goals as goal
 
 pub returns : goal.returns
-returns c = items_from_collect _ c.collect.ensures.ran (YieldsList-from_vec _ refl refl)
+returns c = items_from_collect _ c.collect.ensures.ran (YieldsList-from_vec _ refl c.args.words.rest.ok.0)
