@@ -2,13 +2,15 @@
 //! sockets, handed to `run`. The process ends with the status's number.
 #![tactic(auto)]
 
-ghost use Rattle.std.specs.Prelude.{◌≡◌, IfOk, IfErr, drop, map, string_bytes};
+ghost use Rattle.std.specs.Prelude.{◌≡◌, IfOk, IfErr, [], drop, map, string_bytes};
+ghost use Rattle.std.specs.Vec.Iter.{into_iter_items};
 ghost use Rattle.std.specs.Process.{exit_status};
 ghost use Rattle.wrnet.specs.Ending.{MayEndOf};
 ghost use Rattle.wrp_words.specs.Words.{texts_of};
 ghost use Rattle.wrp_records.specs.Statuses.{number_of};
 
 use std::alloc::{AllocError, Global};
+use std::env::Args;
 use std::net::Net;
 use std::process::ExitCode;
 use std::rt::Env;
@@ -59,16 +61,40 @@ fn run_args<R: AllocGlobal + Input + Print + Net>(
     Ok(run_words(rt, &borrowed(rt.alloc(), args)?))
 }
 
-/// Runs the program. Words that are no UTF-8 are no command.
-fn status<R: AllocGlobal + Env + Input + Print + Net>(rt: &R) -> Result<Status, AllocError> {
-    match env::args(rt) {
-        Ok(args) => {
-            let words: Vec<String> = args.collect(rt.alloc())?;
-            run_args(rt, &words)
-        }
+/// Words that the system gave, in their order.
+fn collected(alloc: Global, words: Args) -> Result<Vec<String>, AllocError>
+    ensures { IfOk result (λ kept. kept.items ≡ into_iter_items words) }
+{
+    words.collect(alloc)
+}
+
+/// Runs the words that the system gave.
+fn run_all<R: AllocGlobal + Input + Print + Net>(rt: &R, words: Args) -> Result<Status, AllocError>
+    ensures { IfOk result (MayEndOf (drop 1 (map string_bytes (into_iter_items words)))) }
+{
+    let args = collected(rt.alloc(), words)?;
+    run_args(rt, &args)
+}
+
+/// Runs what the system gives as the program's words. Words that are no UTF-8 are no command.
+fn ended<R: AllocGlobal + Input + Print + Net>(
+    rt: &R,
+    args: io::Result<Args>,
+) -> Result<Status, AllocError>
+    ensures words { IfOk args (λ words.
+        IfOk result (MayEndOf (drop 1 (map string_bytes (into_iter_items words))))) }
+    ensures no_words { IfErr args (λ error. IfOk result (MayEndOf [])) }
+{
+    match args {
+        Ok(words) => run_all(rt, words),
         Err(error) if error.kind() == io::ErrorKind::OutOfMemory => Err(AllocError),
         Err(_) => Ok(run_words(rt, &[])),
     }
+}
+
+/// Runs the program. What the system gives as its words, no contract can say.
+fn status<R: AllocGlobal + Env + Input + Print + Net>(rt: &R) -> Result<Status, AllocError> {
+    ended(rt, env::args(rt))
 }
 
 /// The status's number; that of OutOfMemory where there was no memory for the words.

@@ -1,0 +1,8 @@
+-- An iterator over words that is collected gives the words that it had.
+use Rattle.std.proofs.Common.{refl}
+use Rattle.std.proofs.lemmas.Iterator.{items_from_collect}
+use Rattle.std.proofs.lemmas.Iterator.Adapters.{YieldsList-from_vec}
+use Rattle.wrnet.proofs.collected.Goals as goal
+
+pub returns : goal.returns
+returns c = items_from_collect _ c.collect.ensures.ran (YieldsList-from_vec _ refl c.args.words.rest.ok.0)
