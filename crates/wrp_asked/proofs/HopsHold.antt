@@ -1,6 +1,5 @@
 -- Hops are kept after each event of an audit, a simulation and a run over a link, by the laws of every run.
-use Rattle.std.proofs.Common.{ℕ, List, [], ◌∷◌}
-use Rattle.wrp_base.specs.declared.network.LinkCfg.{LinkCfg}
+use Rattle.std.proofs.Common.{List, [], ◌∷◌}
 use Rattle.wrp_course.specs.Run.{Happened}
 use Rattle.wrp_course.specs.Setting.{Setting}
 use Rattle.wrp_truth.specs.Bounds.{TrueRun}

@@ -1,6 +1,6 @@
 -- The line of an input is one word: it has no space. What holds of each line of one word holds of each line that an emission
 -- prints of events.
-use Rattle.std.proofs.Common.{◌≡◌, refl, sym, subst, append_assoc, ℕ, ◌==◌, ◌&&◌, not, Bool, true, false, find, if◌then◌else◌, List, [], ◌∷◌, ◌++◌, flat_map, Option, None, Some, option_map, codes, ◌∙◌}
+use Rattle.std.proofs.Common.{◌≡◌, refl, sym, subst, append_assoc, ℕ, ◌==◌, not, Bool, true, false, find, if◌then◌else◌, List, [], ◌∷◌, ◌++◌, flat_map, Option, None, Some, option_map, codes, ◌∙◌}
 use Rattle.std.specs.Prelude.{unwrap_or}
 use Rattle.std.specs.List.{AllByRecursion, join_with_byte, list_all}
 use Rattle.std.proofs.lemmas.Bool.{and_from, and_parts}

@@ -26,7 +26,7 @@ use Rattle.wrp_loop.specs.Loops.{closing_lines}
 use Rattle.wrp_node.specs.NodeAt.{state_of}
 use Rattle.wrp_records.specs.declared.status.Status.{Status}
 use Rattle.wrp_records.specs.declared.status.Status.TheVariants.{Done, BadNetwork, BadTrace, Broken, LinkFault, OutOfMemory, ReadFault, TooLarge}
-use Rattle.wrp_records.specs.Lines.{IsWhole, lines_of}
+use Rattle.wrp_records.specs.Lines.{lines_of}
 use Rattle.wrp_records.specs.Refusals.{bad_network_line, bad_trace_line, code_name, code_of, field_of, name_of, too_large_line}
 use Rattle.wrp_records.specs.Stream.{large_line}
 use Rattle.wrp_records.specs.Words.{line_of, IsWord}

@@ -1,8 +1,8 @@
 -- The place of a network file that a refusal tells is one word: the names of tables and keys are, and so are numbers.
-use Rattle.std.proofs.Common.{◌≡◌, ◌⊎◌, inl, inr, refl, sym, subst, ℕ, ◌+◌, ◌&&◌, Bool, true, false, if◌then◌else◌, find, List, [], ◌∷◌, ◌++◌, map, take, Option, None, Some, IfSome, option_map, codes}
+use Rattle.std.proofs.Common.{◌≡◌, inl, inr, refl, sym, subst, ℕ, ◌+◌, Bool, true, false, if◌then◌else◌, find, List, [], ◌∷◌, ◌++◌, map, take, Option, None, Some, option_map, codes}
 use Rattle.std.specs.Prelude.{Err, option_and_then}
 use Rattle.std.specs.Fmt.{decimal, signed_decimal}
-use Rattle.std.specs.List.{AllByRecursion, list_all, list_any}
+use Rattle.std.specs.List.{list_all, list_any}
 use Rattle.std.specs.Option.{is_some, option_or}
 use Rattle.std.proofs.lemmas.Bool.{and_parts}
 use Rattle.arrayvec.specs.ArrayString.{ArrayString}

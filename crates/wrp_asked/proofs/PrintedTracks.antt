@@ -1,6 +1,6 @@
 -- Each track line that was printed is the line of a report of TRACK, of which the law of every run holds: no other line has its
 -- form, and a line that was cut off has it neither.
-use Rattle.std.proofs.Common.{◌≡◌, ◌⊎◌, inl, inr, refl, sym, ap, ◌∙◌, subst, append-nil, append_assoc, ℕ, ◌+◌, ◌==◌, Bool, true, false, List, [], ◌∷◌, ◌++◌, codes, flat_map, Some}
+use Rattle.std.proofs.Common.{◌≡◌, ◌⊎◌, inl, inr, refl, sym, ap, ◌∙◌, subst, append-nil, append_assoc, ℕ, ◌==◌, Bool, true, false, List, [], ◌∷◌, ◌++◌, codes, flat_map, Some}
 use Rattle.std.specs.List.{AllByRecursion}
 use Rattle.wrp_base.proofs.Lists.{all_weaker}
 use Rattle.wrp_config.specs.Accepted.{HasNames}

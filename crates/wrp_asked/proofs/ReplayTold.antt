@@ -1,6 +1,6 @@
 -- What a replay wrote are the lines of what its node puts out, and what is written after them, by its status; and its dropped frames
 -- leave a count each.
-use Rattle.std.proofs.Common.{◌≡◌, ◌⊎◌, inl, inr, ◌∙◌, refl, ap, sym, subst, ℕ, ◌+◌, Option, None, Some, IfSome, List, [], ◌∷◌, ◌++◌, append-nil, append_assoc, length, map, arith}
+use Rattle.std.proofs.Common.{◌≡◌, ◌⊎◌, inl, inr, ◌∙◌, refl, ap, sym, subst, ℕ, ◌+◌, Option, None, Some, IfSome, List, [], ◌∷◌, ◌++◌, append-nil, append_assoc, length, map}
 use Rattle.std.specs.Io.KnownBytes.{Appends}
 use Rattle.std.specs.List.{concat}
 use Rattle.wrp_io.specs.declared.link.LinkCall.{LinkCall}
@@ -31,7 +31,7 @@ use Rattle.wrp_asked.specs.EmitHeadline.{LacksNode}
 use Rattle.wrp_asked.specs.Ends.{Run}
 use Rattle.wrp_asked.specs.Headline.{ReachesNone}
 use Rattle.wrp_asked.specs.Input.{Divides, behind_separator, network_text}
-use Rattle.wrp_asked.specs.ReplayHeadline.{EndsInputs, FramesOnlyCount, InputsCame, LeavesOneCountIf, OutputsOf, ReplayHeadline, ReplaysAreTold}
+use Rattle.wrp_asked.specs.ReplayHeadline.{EndsInputs, FramesOnlyCount, LeavesOneCountIf, OutputsOf, ReplayHeadline, ReplaysAreTold}
 use Rattle.wrp_asked.specs.Tasks.{Task, Replay, AsksFor, IsReplay, meaning_at, task_row}
 use Rattle.wrp_asked.proofs.DueTold.{IsDueSo, PrintsDue, not_linked, prints}
 use Rattle.wrp_asked.proofs.WordLemmas.{one_command}

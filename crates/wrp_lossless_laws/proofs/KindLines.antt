@@ -50,7 +50,7 @@ use Rattle.wrp_asked.proofs.EventLines.{whole_line}
 use Rattle.wrp_asked.proofs.EventWords.{event_word}
 use Rattle.wrp_asked.proofs.ToldApart.{all_text, count_if, count_lines, flat_all, node_lines, port_if}
 use Rattle.wrp_asked.proofs.ToldWhole.{all_whole}
-use Rattle.wrp_audit.specs.AuditText.{all_counts}
+use Rattle.wrp_network_world.specs.Counts.{all_counts}
 use Rattle.wrp_lossless_laws.specs.Kinds.{has_kind, is_kind, is_of_kind, kinds_in}
 
 -- Lines of outputs

@@ -7,7 +7,7 @@ use Rattle.wrp_scene_records.specs.Scenarios.{IsScenario}
 use Rattle.wrp_records.specs.declared.status.Status.{Status}
 use Rattle.wrp_records.specs.declared.status.Status.TheVariants.{Done, TooLarge}
 use Rattle.wrp_records.specs.Lines.{content_of, lines_of}
-use Rattle.wrp_audit.specs.Audited.{IsSettingOf}
+use Rattle.wrp_network_world.specs.NetworkSetting.{IsSettingOf}
 use Rattle.wrp_commands.specs.Request.{CommandLine}
 use Rattle.wrp_asked.specs.Answer.{Answer}
 use Rattle.wrp_asked.specs.Input.{behind_separator, network_text}
