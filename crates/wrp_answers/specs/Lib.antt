@@ -5,3 +5,4 @@ pub mod Listed
 pub mod LoopAgain
 pub mod Moments
 pub mod NoOutput
+pub mod WorkedLink

@@ -6,6 +6,7 @@ ghost use Rattle.wrp_answers.specs.EachAnswer.{EachStandsAloneWithAnswer};
 ghost use Rattle.wrp_answers.specs.Listed.{ReplayOfListedInputs};
 ghost use Rattle.wrp_answers.specs.Moments.{NextIsLeast};
 ghost use Rattle.wrp_answers.specs.NoOutput.{EmissionTellsNoOutput};
+ghost use Rattle.wrp_answers.specs.WorkedLink.{WorkedLink};
 
 use wrp_config::reading_is_accepted;
 use wrp_projection::replay_of_emitted_inputs;
@@ -31,7 +32,12 @@ pub fn each_has_answer()
     reading_is_accepted();
 }
 
-/// Lines that say events, each accepted in its turn behind those before it, are an audit: what the octets of a Noise
+/// A link that is worked out: calls that follow its answers, with the call after them failing, and calls that do not.
+pub fn worked_link()
+    ensures { WorkedLink }
+{}
+
+/// Lines that say events, each accepted in its turn after those before it, are an audit: what the octets of a Noise
 /// say, the answers of the links' laws, and that each frame that a node was given is read as its octets say, follow.
 pub fn accepted_is_audit()
     ensures { AcceptedIsAudit }

@@ -9,5 +9,5 @@ pub use again::{loop_is_audited_again, text_with_records};
 pub use laws::{
     accepted_is_audit, accepted_is_done, each_has_answer, each_replay_has_answer,
     each_stands_alone_with_answer, emission_tells_no_output, next_moment_is_least,
-    replay_of_listed_inputs, run_of_lines_is_audit, simulated_is_heard,
+    replay_of_listed_inputs, run_of_lines_is_audit, simulated_is_heard, worked_link,
 };
