@@ -3,3 +3,4 @@ pub mod Worked
 pub mod Simulated
 pub mod Kinds
 pub mod Printed
+pub mod WorkedKinds

@@ -5,6 +5,7 @@
 ghost use Rattle.wrp_lossless_laws.specs.Printed.{LosslessLoopPrintsTheSimulation};
 ghost use Rattle.wrp_lossless_laws.specs.Simulated.{LosslessLoopIsSimulated};
 ghost use Rattle.wrp_lossless_laws.specs.Worked.{WorkedLinks};
+ghost use Rattle.wrp_lossless_laws.specs.WorkedKinds.{WorkedKinds};
 
 use wrp_asked::looped_events_carry_parts;
 use wrp_sim::simulator_keeps_the_bounds;
@@ -17,7 +18,8 @@ pub fn lossless_loop_is_simulated()
     simulator_keeps_the_bounds();
 }
 
-/// So both print the same lines of the kinds step, link, servo and track, and end with the same status.
+/// So both print the same lines of the kinds step, link, servo and track, if the loop ends with Done or with TooLarge;
+/// the simulation then ends with the same status.
 pub fn lossless_loop_prints_the_simulation()
     ensures { LosslessLoopPrintsTheSimulation }
 {
@@ -29,4 +31,9 @@ pub fn lossless_loop_prints_the_simulation()
 /// not, since a frame is lost, comes twice or is overtaken.
 pub fn worked_links()
     ensures { WorkedLinks }
+{}
+
+/// Which lines are of the four kinds, worked out: four of the six lines of an output.
+pub fn worked_kinds()
+    ensures { WorkedKinds }
 {}
