@@ -11,10 +11,11 @@ use Rattle.byteorder.specs.Numbers.{length-bytes_high_first}
 use Rattle.hex.specs.Hex.{encode_lower, lower_digits}
 use Rattle.hex.proofs.HexLemmas.{length-encode_with}
 use Rattle.toml.specs.Data.{Data, Members, as_table}
-use Rattle.wrp_base.specs.declared.configuration.NetCfg.{NetCfg}
-use Rattle.wrp_base.specs.declared.network.LinkCfg.{LinkCfg}
-use Rattle.wrp_base.specs.declared.network.NodeCfg.{NodeCfg}
-use Rattle.wrp_base.specs.Network.{IsFromTo, name_at, node_count}
+use Rattle.wrp_network.specs.declared.configuration.NetCfg.{NetCfg}
+use Rattle.wrp_network.specs.declared.network.LinkCfg.{LinkCfg}
+use Rattle.wrp_network.specs.declared.network.NodeCfg.{NodeCfg}
+use Rattle.wrp_network.specs.Network.{name_at, node_count}
+use Rattle.wrp_base.specs.Ranges.{IsFromTo}
 use Rattle.wrp_base.proofs.Lists.{has_item, length_map}
 use Rattle.wrp_caldb.specs.Database.{database_of, each_table}
 use Rattle.wrp_caldb.specs.Name.{is_letter, is_name, is_name_octet}

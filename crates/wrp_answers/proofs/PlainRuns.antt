@@ -8,7 +8,7 @@ use Rattle.wrp_course.specs.Run.{AllAccepted, AllSaid, Happened, steps_at, world
 use Rattle.wrp_course.specs.Runs.{AllEvents}
 use Rattle.wrp_course.specs.Setting.{Setting}
 use Rattle.wrp_course.specs.WorldAt.{WorldAt}
-use Rattle.wrp_base.specs.declared.configuration.NetCfg.{NetCfg}
+use Rattle.wrp_network.specs.declared.configuration.NetCfg.{NetCfg}
 use Rattle.wrp_trace.proofs.EventsReadBack.{events_back}
 use Rattle.wrp_trace.specs.EventPrinting.{event_text}
 use Rattle.wrp_trace.specs.Events.{bare}

@@ -3,8 +3,8 @@ use Rattle.std.proofs.Common.{sym, subst, ℕ, ℤ, ◌-◌, Bool, true, false, 
 use Rattle.std.specs.Prelude.{option_and_then}
 use Rattle.std.specs.List.{AllByRecursion, find}
 use Rattle.std.specs.Ordering.{int_eq}
-use Rattle.wrp_base.specs.declared.configuration.NetCfg.{NetCfg}
-use Rattle.wrp_base.specs.Network.{node_count}
+use Rattle.wrp_network.specs.declared.configuration.NetCfg.{NetCfg}
+use Rattle.wrp_network.specs.Network.{node_count}
 use Rattle.wrp_config.specs.Same.{ReadingIsAccepted}
 use Rattle.wrp_course.specs.declared.event.Event.{Event}
 use Rattle.wrp_course.specs.declared.event.Event.TheVariants.{Pass, Tick, Sample, Depart, Arrive, Deliver, Noise, Down, Up, Cut, Join}

@@ -3,7 +3,7 @@
 use Rattle.std.proofs.Common.{◌≡◌, inl, inr, refl, sym, subst, ℕ, Bool, Ok, List, [], ◌∷◌, ◌++◌, map, reverse, flat_map}
 use Rattle.std.proofs.lemmas.List.{reverse-append}
 use Rattle.std.specs.List.{AllByRecursion}
-use Rattle.wrp_base.specs.declared.configuration.NetCfg.{NetCfg}
+use Rattle.wrp_network.specs.declared.configuration.NetCfg.{NetCfg}
 use Rattle.wrp_base.proofs.Lists.{all_weaker}
 use Rattle.wrp_config.specs.Same.{ReadingIsAccepted}
 use Rattle.wrp_node.specs.declared.interface.Input.{Input}

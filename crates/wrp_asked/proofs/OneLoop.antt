@@ -1,7 +1,7 @@
 -- A scenario, a seed and the calls of a link are one run of a network over it: it ends so, and writes this.
 use Rattle.std.proofs.Common.{◌≡◌, ◌∙◌, inr, refl, ap, ap₂, sym, subst, ℕ, if◌then◌else◌, List, [], ◌∷◌, ◌++◌, flat_map}
 use Rattle.std.specs.List.{concat}
-use Rattle.wrp_base.specs.Network.{name_at}
+use Rattle.wrp_network.specs.Network.{name_at}
 use Rattle.wrp_course.specs.Run.{world_after}
 use Rattle.wrp_course.specs.Setting.{Setting, nodes_of}
 use Rattle.wrp_course.specs.WorldAt.{WorldAt}

@@ -3,8 +3,8 @@
 -- within the sum of the hops, with no motion of HOLDOVER (this project's profile). All in tau.
 use Rattle.std.specs.Prelude.{◌≡◌, ◌+◌, ◌≤◌, ℕ, unsigned_abs, List, ◌∷◌, Some}
 use Rattle.wrp_base.specs.Closeness.{IsWithin}
-use Rattle.wrp_base.specs.declared.network.LinkCfg.{LinkCfg}
-use Rattle.wrp_base.specs.Network.{link_above}
+use Rattle.wrp_network.specs.declared.network.LinkCfg.{LinkCfg}
+use Rattle.wrp_network.specs.Network.{link_above}
 use Rattle.wrp_bounds.specs.Bounds.{hop_of}
 use Rattle.wrp_course.specs.Run.{Happened, world_after}
 use Rattle.wrp_course.specs.Setting.{Setting}

@@ -5,7 +5,7 @@ use Rattle.std.specs.Fmt.{decimal, signed_decimal}
 use Rattle.std.specs.List.{AllByRecursion, Contains}
 use Rattle.wrp_base.specs.declared.link.LinkState.TheVariants.{LinkOn}
 use Rattle.wrp_base.specs.declared.link.LinkWord.TheVariants.{In}
-use Rattle.wrp_base.specs.Network.{name_at}
+use Rattle.wrp_network.specs.Network.{name_at}
 use Rattle.wrp_bounds.specs.Bounds.{path_of}
 use Rattle.wrp_course.specs.Given.{NodeStepAt}
 use Rattle.wrp_course.specs.Run.{Happened, steps_at, world_after}

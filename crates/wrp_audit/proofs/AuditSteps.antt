@@ -2,9 +2,9 @@
 -- makes one run more.
 use Rattle.std.proofs.Common.{◌≡◌, ◌∙◌, refl, ap, sym, subst, ℕ, ℤ, pos, ◌<◌, ◌≤◌, ◌+◌, Bool, List, [], ◌∷◌, ◌++◌, flat_map, map, length, Option, None, Some, IfSome, Ok, Err, arith}
 use Rattle.std.specs.Prelude.{slice_get}
-use Rattle.wrp_base.specs.declared.configuration.NetCfg.{NetCfg}
+use Rattle.wrp_network.specs.declared.configuration.NetCfg.{NetCfg}
 use Rattle.wrp_base.specs.declared.fault.TraceFault.{TraceFault}
-use Rattle.wrp_base.specs.Network.{IsTree, name_at, node_count}
+use Rattle.wrp_network.specs.Network.{IsTree, name_at, node_count}
 use Rattle.wrp_base.proofs.Lists.{has_item}
 use Rattle.wrp_config.specs.declared.network.Network.{Network}
 use Rattle.wrp_node.specs.Control.{law_in}

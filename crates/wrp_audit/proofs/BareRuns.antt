@@ -1,7 +1,7 @@
 -- What is due for the record lines of an audit does not see the unused room of names.
 use Rattle.std.proofs.Common.{◌≡◌, ◌∙◌, refl, ap, ap₂, sym, subst, ℕ, pos, ◌==◌, ◌++◌, if◌then◌else◌, Some, List, [], ◌∷◌, map, flat_map, arith}
 use Rattle.std.proofs.lemmas.List.{length-map}
-use Rattle.wrp_base.specs.Network.{node_count}
+use Rattle.wrp_network.specs.Network.{node_count}
 use Rattle.wrp_config.specs.Config.{bare_node}
 use Rattle.wrp_config.specs.Same.{bare_cfg}
 use Rattle.wrp_lines.specs.Lines.{output_line_of}

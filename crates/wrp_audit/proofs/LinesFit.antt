@@ -10,7 +10,7 @@ use Rattle.byteorder.specs.Numbers.{big_from-lt}
 use Rattle.hex.specs.Hex.{decode_of}
 use Rattle.hex.specs.declared.error.FromHexError.{FromHexError}
 use Rattle.hex.proofs.HexLemmas.{decode_of-ok}
-use Rattle.wrp_base.specs.declared.configuration.NetCfg.{NetCfg}
+use Rattle.wrp_network.specs.declared.configuration.NetCfg.{NetCfg}
 use Rattle.wrp_base.specs.declared.fault.TraceFault.TheVariants.{Fields, Kind, Number}
 use Rattle.wrp_base.specs.Lines.{parts_of}
 use Rattle.wrp_base.specs.Octets.{AreOctets}

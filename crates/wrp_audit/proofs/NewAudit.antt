@@ -1,6 +1,6 @@
 -- A world before its first event, with laws that fit its network, can be audited and stands for no lines.
 use Rattle.std.proofs.Common.{◌≡◌, ◌∙◌, ap, sym, subst, ℤ, ◌<◌, List, [], Option, IfSome}
-use Rattle.wrp_base.specs.Network.{IsTree, node_count}
+use Rattle.wrp_network.specs.Network.{IsTree, node_count}
 use Rattle.wrp_config.specs.declared.network.Network.{Network}
 use Rattle.wrp_law.specs.Law.{LawOf}
 use Rattle.wrp_world.specs.HasLaws.{HasLaws}

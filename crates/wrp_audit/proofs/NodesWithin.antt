@@ -1,7 +1,7 @@
 -- The nodes that make steps in an event are of the network.
 use Rattle.std.proofs.Common.{sym, subst, ℕ, ℤ, ◌<◌, List, [], ◌∷◌, map}
 use Rattle.std.specs.List.{AllByRecursion}
-use Rattle.wrp_base.specs.Network.{IsTree, node_count}
+use Rattle.wrp_network.specs.Network.{IsTree, node_count}
 use Rattle.wrp_course.specs.declared.event.Event.{Event}
 use Rattle.wrp_course.specs.declared.node_out.NodeOut.{NodeOut}
 use Rattle.wrp_course.specs.EventAt.{IsEventOf}

@@ -1,6 +1,6 @@
 -- The events that the record lines of an audit say (this project's profile).
 use Rattle.std.specs.Prelude.{◌≡◌, ◌<◌, ℕ, Ok, List, map, reverse}
-use Rattle.wrp_base.specs.Network.{node_count}
+use Rattle.wrp_network.specs.Network.{node_count}
 use Rattle.wrp_node.specs.NodeRun.{AllSaid}
 use Rattle.wrp_trace.specs.Events.{event_read}
 use Rattle.wrp_course.specs.Run.{Happened, WorldRun, world_after}

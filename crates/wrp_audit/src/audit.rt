@@ -1,7 +1,7 @@
 //! A network that is audited: its world, stepped by events.
 ghost use Rattle.std.specs.Prelude.{◌≡◌, ◌<◌, ◌≤◌, ◌+◌, ◌++◌, [], ◌^◌, ℕ, List, IfOk, IfSome, map};
 ghost use Rattle.std.specs.List.{AllByRecursion, flat_map};
-ghost use Rattle.wrp_base.specs.Network.{node_count};
+ghost use Rattle.wrp_network.specs.Network.{node_count};
 ghost use Rattle.wrp_config.specs.Accepted.{IsAccepted};
 ghost use Rattle.wrp_lines.specs.Lines.{output_line_of};
 ghost use Rattle.wrp_trace.specs.Events.{bare};

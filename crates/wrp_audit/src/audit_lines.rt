@@ -1,6 +1,6 @@
 //! The lines of an audit, of which each says an event.
 ghost use Rattle.std.specs.Prelude.{◌≡◌, ◌<◌, [], IfOk, IfSome, OnOk};
-ghost use Rattle.wrp_base.specs.Network.{node_count};
+ghost use Rattle.wrp_network.specs.Network.{node_count};
 ghost use Rattle.wrp_config.specs.Accepted.{HasNames, IsAccepted};
 ghost use Rattle.wrp_course.specs.EventAt.{IsEventOf};
 ghost use Rattle.wrp_fields.specs.Reading.{IsReading};

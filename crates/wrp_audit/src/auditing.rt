@@ -1,7 +1,7 @@
 //! The audit of a network over the records that a reader gives.
 ghost use Rattle.std.specs.Prelude.{◌≡◌, ◌<◌, [], ℕ, IfSome, true};
 ghost use Rattle.std.specs.Io.KnownBytes.{IsAtEnd};
-ghost use Rattle.wrp_base.specs.Network.{node_count};
+ghost use Rattle.wrp_network.specs.Network.{node_count};
 ghost use Rattle.wrp_config.specs.Accepted.{IsAccepted};
 ghost use Rattle.wrp_records.specs.ByLines.{of_lines};
 ghost use Rattle.wrp_records.specs.Passages.{Passes, passage};

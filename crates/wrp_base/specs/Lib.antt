@@ -5,6 +5,7 @@ pub mod Closeness
 pub mod Division
 pub mod Held
 pub mod Lines
+pub mod Link
 pub mod Message
-pub mod Network
 pub mod Octets
+pub mod Ranges

@@ -2,7 +2,7 @@
 use Rattle.std.proofs.Common.{◌≡◌, ℕ, ℤ, ◌<◌, ◌≤◌, ◌^◌, unsigned_abs, to_z, of_z, FitsSigned, ap, arith}
 use Rattle.std.proofs.lemmas.Int.{ints, to_z-of_z}
 use Rattle.std.specs.Int.{w64}
-use Rattle.wrp_base.specs.Network.{IsFromTo}
+use Rattle.wrp_base.specs.Ranges.{IsFromTo}
 
 -- one from a least to a greatest number
 pub read_between : (least greatest : ℕ) (z : ℤ) → IsFromTo least greatest z → greatest < 2 ^ 62 → unsigned_abs (to_z w64 (of_z w64 z)) ≡ unsigned_abs z

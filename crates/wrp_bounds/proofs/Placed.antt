@@ -2,10 +2,10 @@
 use Rattle.std.proofs.lemmas.Option.{slice_get_read}
 use Rattle.std.proofs.Common.{◌≡◌, ℕ, ◌<◌, length, get_or, refl, sym, List, Option, Some, None, slice_get, Bor, IfSome, option_map}
 use Rattle.std.specs.Prelude.{◌==◌}
-use Rattle.wrp_base.specs.declared.configuration.NetCfg.{NetCfg}
-use Rattle.wrp_base.specs.declared.network.LinkCfg.{LinkCfg}
-use Rattle.wrp_base.specs.Network.{HasRanges, IsTree, IsLink, link_above}
-use Rattle.wrp_base.specs.declared.network.NodeCfg.{NodeCfg}
+use Rattle.wrp_network.specs.declared.configuration.NetCfg.{NetCfg}
+use Rattle.wrp_network.specs.declared.network.LinkCfg.{LinkCfg}
+use Rattle.wrp_network.specs.Network.{HasRanges, IsTree, IsLink, link_above}
+use Rattle.wrp_network.specs.declared.network.NodeCfg.{NodeCfg}
 use Rattle.wrp_base.proofs.Lists.{found_at}
 use Rattle.wrp_bounds.specs.Bounds.{IsPlaced, numbers_over, numbers_between}
 

@@ -4,8 +4,8 @@ use Rattle.std.proofs.lemmas.Option.{slice_get_cases}
 use Rattle.std.specs.Prelude.{find}
 use Rattle.std.specs.Option.{option_or, option_to_list}
 use Rattle.std.specs.List.{cons_option}
-use Rattle.wrp_base.specs.declared.configuration.NetCfg.{NetCfg}
-use Rattle.wrp_base.specs.declared.network.NodeCfg.{NodeCfg}
+use Rattle.wrp_network.specs.declared.configuration.NetCfg.{NetCfg}
+use Rattle.wrp_network.specs.declared.network.NodeCfg.{NodeCfg}
 use Rattle.wrp_bounds.specs.declared.inequality.Inequality.{Inequality}
 use Rattle.wrp_bounds.specs.Inequalities.{is_broken, phase_room_of, phase_rooms_from}
 

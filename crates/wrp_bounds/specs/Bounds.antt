@@ -2,10 +2,10 @@
 -- profile).
 use Rattle.std.specs.Prelude.{ℕ, zero, suc, ◌+◌, ◌<◌, max, unsigned_abs, if◌then◌else◌, List, [], ◌∷◌, sum_by, Option, None, Some, slice_get}
 use Rattle.std.specs.Option.{is_some, option_map_or, option_and_then}
-use Rattle.wrp_base.specs.declared.configuration.NetCfg.{NetCfg}
-use Rattle.wrp_base.specs.declared.network.NodeCfg.{NodeCfg}
-use Rattle.wrp_base.specs.declared.network.LinkCfg.{LinkCfg}
-use Rattle.wrp_base.specs.Network.{HasLinkRanges, link_above, node_count}
+use Rattle.wrp_network.specs.declared.configuration.NetCfg.{NetCfg}
+use Rattle.wrp_network.specs.declared.network.NodeCfg.{NodeCfg}
+use Rattle.wrp_network.specs.declared.network.LinkCfg.{LinkCfg}
+use Rattle.wrp_network.specs.Network.{HasLinkRanges, link_above, node_count}
 use Rattle.wrp_bounds.specs.declared.numbers.NodeNumbers.{NodeNumbers}
 use Rattle.wrp_bounds.specs.declared.numbers.HopNumbers.{HopNumbers}
 use Rattle.wrp_bounds.specs.Hop.{hop_bound}

@@ -1,8 +1,8 @@
 -- Laws of the bounds, over all networks (this project's profile).
 use Rattle.std.specs.Prelude.{ℕ, ◌≡◌, ◌+◌, ◌*◌, ◌<◌, ◌≤◌, Some}
-use Rattle.wrp_base.specs.declared.configuration.NetCfg.{NetCfg}
-use Rattle.wrp_base.specs.declared.network.LinkCfg.{LinkCfg}
-use Rattle.wrp_base.specs.Network.{IsTree, IsGrandmaster, link_above, node_count}
+use Rattle.wrp_network.specs.declared.configuration.NetCfg.{NetCfg}
+use Rattle.wrp_network.specs.declared.network.LinkCfg.{LinkCfg}
+use Rattle.wrp_network.specs.Network.{IsTree, IsGrandmaster, link_above, node_count}
 use Rattle.wrp_bounds.specs.Bounds.{hop_of, path_of, holdover_of}
 use Rattle.wrp_bounds.specs.Motion.{rounded_up}
 

@@ -1,6 +1,6 @@
 -- The times that a network's bounds and inequalities speak of, in tau (this project's profile).
 use Rattle.std.specs.Prelude.{ℕ, ℤ, ◌+◌, ◌*◌, unsigned_abs}
-use Rattle.wrp_base.specs.declared.configuration.NetCfg.{NetCfg}
+use Rattle.wrp_network.specs.declared.configuration.NetCfg.{NetCfg}
 
 -- a time in ns, in tau
 abbrev pub tau_of_ns : ℤ → ℕ

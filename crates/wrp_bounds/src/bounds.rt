@@ -1,12 +1,13 @@
 //! The bounds of a node: of its hop, in TRACK, and in HOLDOVER.
 ghost use Rattle.std.specs.Prelude.{◌≡◌, pos, ◌+◌, ◌^◌, ◌<◌, ◌≤◌, ◌≤ℤ◌, ◌<ℤ◌, IsSome};
-ghost use Rattle.wrp_base.specs.Network as network;
-ghost use Rattle.wrp_base.specs.Network.{HasRanges, IsTree, node_count};
+ghost use Rattle.wrp_network.specs.Network as network;
+ghost use Rattle.wrp_network.specs.Network.{HasRanges, IsTree, node_count};
 ghost use Rattle.wrp_bounds.specs.Bounds as spec;
 ghost use Rattle.wrp_bounds.specs.Bounds.{IsPlaced, hop_of, path_of, holdover_of};
 
 use crate::network::{held_motion, link_above, numbers_over};
-use wrp_base::{LinkCfg, NetCfg, Tau};
+use wrp_base::Tau;
+use wrp_network::{LinkCfg, NetCfg};
 
 /// The most links from a node up to the grandmaster.
 const MOST_LINKS: u32 = 8;

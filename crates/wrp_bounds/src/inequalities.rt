@@ -1,6 +1,6 @@
 //! The nine inequalities of a network, and the first of them that it breaks.
 ghost use Rattle.std.specs.Prelude.{◌≡◌, ◌^◌, ◌<◌, ◌≤◌, ◌↔◌, IsOk, find, option_map, option_to_list};
-ghost use Rattle.wrp_base.specs.Network.{HasRanges, IsTree, node_count};
+ghost use Rattle.wrp_network.specs.Network.{HasRanges, IsTree, node_count};
 ghost use Rattle.wrp_bounds.specs.Hop.{IsInRange};
 ghost use Rattle.wrp_bounds.specs.Inequalities as spec;
 ghost use Rattle.wrp_bounds.specs.Inequalities.{is_broken, inequalities, phase_rooms, answer_of, KeepsInequalities};
@@ -9,7 +9,7 @@ use crate::inequality::{Clash, Inequality, Order};
 use crate::network::{link_above, numbers_over};
 use crate::numbers::HopNumbers;
 use crate::times::{count, frame_life, gap_time, longest_tick, reach, shortest_tick, ticks_of};
-use wrp_base::NetCfg;
+use wrp_network::NetCfg;
 
 /// How many Syncs or Delay_Reqs a port may send before a sequenceId comes again: somewhat fewer
 /// than there are sequenceIds.

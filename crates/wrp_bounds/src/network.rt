@@ -1,8 +1,8 @@
 //! What a network's tree says of a node and of its link upwards.
 ghost use Rattle.std.specs.Prelude.{◌≡◌, ℕ, ◌^◌, ◌<◌, ◌≤◌, Some, IfSome, slice_get};
 ghost use Rattle.std.specs.Option.{option_map, is_some};
-ghost use Rattle.wrp_base.specs.Network as network;
-ghost use Rattle.wrp_base.specs.Network.{HasRanges, IsTree, HasNodeRanges, IsNode, node_count};
+ghost use Rattle.wrp_network.specs.Network as network;
+ghost use Rattle.wrp_network.specs.Network.{HasRanges, IsTree, HasNodeRanges, IsNode, node_count};
 ghost use Rattle.wrp_bounds.specs.Hop.{IsInRange, EndIsInRange};
 ghost use Rattle.wrp_bounds.specs.Bounds as spec;
 ghost use Rattle.wrp_bounds.specs.Bounds.{IsPlaced};
@@ -10,7 +10,7 @@ ghost use Rattle.wrp_bounds.specs.Bounds.{IsPlaced};
 use crate::motion::motion;
 use crate::numbers::{HopNumbers, NodeNumbers};
 use crate::times::{age_time, count, gap_time, held_time, reach};
-use wrp_base::{LinkCfg, NetCfg, NodeCfg};
+use wrp_network::{LinkCfg, NetCfg, NodeCfg};
 
 // The first link that has this node as its lower end.
 fn first_above<'a>(cfg: &'a NetCfg, n: u8) -> Option<&'a LinkCfg>

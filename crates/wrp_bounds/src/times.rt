@@ -1,9 +1,10 @@
 //! The times that bounds and inequalities speak of, in tau.
 ghost use Rattle.std.specs.Prelude.{◌≡◌, ℕ, ◌+◌, ◌*◌, ◌^◌, ◌<◌, ◌≤◌, ◌≤ℤ◌, pos, unsigned_abs};
-ghost use Rattle.wrp_base.specs.Network.{HasRanges, IsFromTo};
+ghost use Rattle.wrp_network.specs.Network.{HasRanges};
+ghost use Rattle.wrp_base.specs.Ranges.{IsFromTo};
 ghost use Rattle.wrp_bounds.specs.Times as spec;
 
-use wrp_base::NetCfg;
+use wrp_network::NetCfg;
 
 /// One ns, in tau.
 const TAU_OF_NS: u128 = 65_536_000;

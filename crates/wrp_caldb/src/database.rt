@@ -8,7 +8,8 @@ ghost use Rattle.wrp_caldb.specs.Text.{IsListed};
 
 use crate::points::Points;
 use std::marker::Model;
-use wrp_base::{Fibre, Module, Name};
+use wrp_base::{Fibre, Module};
+use wrp_network::Name;
 
 /// The numbers of a module for a pair of wavelengths.
 #[derive(Clone, Copy, Debug, Default, PartialEq, Eq)]

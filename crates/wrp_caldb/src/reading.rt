@@ -24,7 +24,8 @@ use crate::value::{tables_at, value_at};
 use arrayvec::ArrayString;
 use std::alloc::{AllocError, Global};
 use toml::{Table, Value};
-use wrp_base::{ConfFault, Fibre, Module, Name};
+use wrp_base::{ConfFault, Fibre, Module};
+use wrp_network::Name;
 
 /// The number at a row's key, or its default; 0 where no number of its sort stands there.
 pub fn number(table: &Table, row: &Row) -> i64

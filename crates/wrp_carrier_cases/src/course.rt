@@ -1,6 +1,6 @@
 //! A run: the simulator's events come to a world and to its twin, and after each of them the world is tested.
 ghost use Rattle.std.specs.Prelude.{◌≡◌, ◌≤◌, ◌^◌, IfOk, unsigned_abs};
-ghost use Rattle.wrp_base.specs.Network.{HasRanges};
+ghost use Rattle.wrp_network.specs.Network.{HasRanges};
 ghost use Rattle.wrp_law.specs.Law.{KeepsFact};
 ghost use Rattle.wrp_scene.specs.Scenario.{IsSceneOf};
 ghost use Rattle.wrp_sim.specs.Sim.{FitsSim};

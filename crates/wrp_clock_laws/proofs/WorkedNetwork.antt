@@ -5,9 +5,10 @@ use Rattle.std.proofs.lemmas.Int.{ints}
 use Rattle.std.proofs.lemmas.Option.{same_Some}
 use Rattle.wrp_base.specs.Clock.{period_of}
 use Rattle.wrp_base.specs.declared.link.Module.{Module}
-use Rattle.wrp_base.specs.declared.network.LinkCfg.{LinkCfg}
-use Rattle.wrp_base.specs.declared.network.NodeCfg.{NodeCfg}
-use Rattle.wrp_base.specs.Network.{End, HasDepth, HasLinkRanges, HasNodeRanges, HasRanges, IsFromTo, IsTree, link_above}
+use Rattle.wrp_network.specs.declared.network.LinkCfg.{LinkCfg}
+use Rattle.wrp_network.specs.declared.network.NodeCfg.{NodeCfg}
+use Rattle.wrp_network.specs.Network.{End, HasDepth, HasLinkRanges, HasNodeRanges, HasRanges, IsTree, link_above}
+use Rattle.wrp_base.specs.Ranges.{IsFromTo}
 use Rattle.wrp_bounds.specs.Bounds.{numbers_of, numbers_over}
 use Rattle.wrp_bounds.specs.declared.numbers.HopNumbers.{HopNumbers}
 use Rattle.wrp_bounds.specs.Hop.{detector_error, gap_motion}

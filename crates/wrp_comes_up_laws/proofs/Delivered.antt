@@ -9,8 +9,9 @@ use Rattle.std.specs.Int.Signed.{le_z}
 use Rattle.wrp_base.specs.declared.link.Role.{Role}
 use Rattle.wrp_base.specs.declared.link.Role.TheVariants.{Master, Slave}
 use Rattle.wrp_base.specs.declared.message.WrMsg.{WrMsg}
-use Rattle.wrp_base.specs.declared.network.LinkCfg.{LinkCfg}
-use Rattle.wrp_base.specs.Network.{End, other_of}
+use Rattle.wrp_network.specs.declared.network.LinkCfg.{LinkCfg}
+use Rattle.wrp_network.specs.Network.{End}
+use Rattle.wrp_base.specs.Link.{other_of}
 use Rattle.wrp_base.proofs.Naturals.{eq_self}
 use Rattle.wrp_bounds.specs.Times.{frame_life}
 use Rattle.wrp_frame.specs.SentOctets.{octets_of}

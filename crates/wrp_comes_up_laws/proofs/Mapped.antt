@@ -5,8 +5,8 @@ use Rattle.wrp_base.specs.declared.link.LinkState.TheVariants.{Idle, LinkOn}
 use Rattle.wrp_base.specs.declared.link.Role.{Role}
 use Rattle.wrp_base.specs.declared.link.Role.TheVariants.{Master, Slave}
 use Rattle.wrp_base.specs.declared.message.WrMsg.{WrMsg}
-use Rattle.wrp_base.specs.declared.network.LinkCfg.{LinkCfg}
-use Rattle.wrp_base.specs.Network.{node_count}
+use Rattle.wrp_network.specs.declared.network.LinkCfg.{LinkCfg}
+use Rattle.wrp_network.specs.Network.{node_count}
 use Rattle.wrp_bounds.specs.Times.{longest_tick}
 use Rattle.wrp_handshake.specs.Ends.{Port, BothPorts, Change, Hears, AllMayCome, MayCome, changed, ends_after, end_of as port_of}
 use Rattle.wrp_handshake.specs.Laws.{IsAwake}

@@ -8,7 +8,7 @@ use Rattle.wrp_base.specs.declared.link.LinkWord.TheVariants.{Down, Ptp, Quiet}
 use Rattle.wrp_base.specs.declared.link.Role.{Role}
 use Rattle.wrp_base.specs.declared.link.Role.TheVariants.{Master, Slave}
 use Rattle.wrp_base.specs.declared.message.PtpMsg.{PtpMsg}
-use Rattle.wrp_base.specs.declared.network.LinkCfg.{LinkCfg}
+use Rattle.wrp_network.specs.declared.network.LinkCfg.{LinkCfg}
 use Rattle.wrp_data.specs.declared.datasets.PortDs.{PortDs}
 use Rattle.wrp_data.specs.Announce.{bit_where}
 use Rattle.wrp_frame.specs.declared.fault.FrameFault.{FrameFault}

@@ -5,7 +5,7 @@ use Rattle.wrp_base.specs.declared.link.LinkState.TheVariants.{LinkOn}
 use Rattle.wrp_base.specs.declared.link.Module.{Module}
 use Rattle.wrp_base.specs.declared.link.Role.{Role}
 use Rattle.wrp_base.specs.declared.link.Role.TheVariants.{Master, Slave}
-use Rattle.wrp_base.specs.declared.network.LinkCfg.{LinkCfg}
+use Rattle.wrp_network.specs.declared.network.LinkCfg.{LinkCfg}
 use Rattle.wrp_data.specs.declared.datasets.PortDs.{PortDs}
 use Rattle.wrp_handshake.specs.Ends.{AllMayCome, CanBe, Change, BothPorts, Hears, Lights, MayCome, Passes, Starts, changed, ends_after, new_ends}
 use Rattle.wrp_handshake.proofs.Changes.{EndsKeep, all_keep, start_keeps}

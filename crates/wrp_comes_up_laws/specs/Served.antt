@@ -7,8 +7,8 @@ use Rattle.wrp_base.specs.declared.message.Body.{Body}
 use Rattle.wrp_base.specs.declared.message.Body.TheVariants.{Announce}
 use Rattle.wrp_base.specs.declared.message.WrMsg.{WrMsg}
 use Rattle.wrp_base.specs.declared.message.WrMsg.TheVariants.{Calibrate as CALIBRATE, Calibrated as CALIBRATED}
-use Rattle.wrp_base.specs.declared.network.LinkCfg.{LinkCfg}
-use Rattle.wrp_base.specs.Network.{other_of}
+use Rattle.wrp_network.specs.declared.network.LinkCfg.{LinkCfg}
+use Rattle.wrp_base.specs.Link.{other_of}
 use Rattle.wrp_handshake.specs.Ends.{BothPorts}
 use Rattle.wrp_link.specs.Rows.{offers}
 use Rattle.wrp_node.specs.NodeAt.{locked_of}

@@ -4,11 +4,11 @@ use Rattle.std.specs.Prelude.{codes, slice_get}
 use Rattle.std.specs.List.{list_any, before_first, after_first}
 use Rattle.toml.specs.Data.{Data, Members, table}
 use Rattle.std.proofs.lemmas.Bool.{or_parts}
-use Rattle.wrp_base.specs.declared.configuration.NetCfg.{NetCfg}
+use Rattle.wrp_network.specs.declared.configuration.NetCfg.{NetCfg}
 use Rattle.wrp_base.specs.declared.link.Fibre.{Fibre}
-use Rattle.wrp_base.specs.declared.network.NodeCfg.{NodeCfg}
-use Rattle.wrp_base.specs.declared.network.LinkCfg.{LinkCfg}
-use Rattle.wrp_base.specs.Network.{End, IsNode, IsLink, HasRanges, HasLinkRanges, IsTree, node_count}
+use Rattle.wrp_network.specs.declared.network.NodeCfg.{NodeCfg}
+use Rattle.wrp_network.specs.declared.network.LinkCfg.{LinkCfg}
+use Rattle.wrp_network.specs.Network.{End, IsNode, IsLink, HasRanges, HasLinkRanges, IsTree, node_count}
 use Rattle.wrp_base.proofs.Lists.{length_map}
 use Rattle.wrp_bounds.specs.Inequalities.{KeepsInequalities}
 use Rattle.wrp_caldb.specs.Database.{Database, name_at, table_at, database_of}

@@ -6,7 +6,7 @@ use Rattle.std.specs.List.{find, flat_map}
 use Rattle.std.proofs.lemmas.Option.{same_Some}
 use Rattle.wrp_base.specs.declared.link.Fibre.{Fibre}
 use Rattle.wrp_base.specs.declared.link.Module.{Module}
-use Rattle.wrp_base.specs.Network.{IsAmong}
+use Rattle.wrp_base.specs.Ranges.{IsAmong}
 use Rattle.wrp_base.proofs.Lists.{found_at}
 use Rattle.wrp_caldb.specs.Database.{Database, ModuleAt, FibreAt, TableAt, entry_at, delays_at, fibre_named, fibre_at, table_at}
 use Rattle.wrp_caldb.specs.Name.{same_name}

@@ -9,7 +9,7 @@ use Rattle.std.specs.Option.{option_or, is_some}
 use Rattle.std.specs.Ordering.{int_eq}
 use Rattle.std.specs.List.{AllByRecursion, find, list_any}
 use Rattle.toml.specs.Data.{Data, Members, as_integer, as_str, get_member}
-use Rattle.wrp_base.specs.Network.{IsWavelength}
+use Rattle.wrp_network.specs.Network.{IsWavelength}
 use Rattle.wrp_base.specs.declared.link.Fibre.{Fibre}
 use Rattle.wrp_base.proofs.Options.{pair_there}
 use Rattle.wrp_caldb.specs.Database.{Database, fibre_at, module_at}

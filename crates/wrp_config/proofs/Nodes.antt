@@ -4,11 +4,12 @@ use Rattle.std.specs.Prelude.{codes, option_and_then}
 use Rattle.std.specs.Option.{option_or}
 use Rattle.std.specs.List.{AllByRecursion, list_any}
 use Rattle.toml.specs.Data.{Data, Members, as_str, get_member}
-use Rattle.wrp_base.specs.declared.network.NodeCfg.{NodeCfg}
+use Rattle.wrp_network.specs.declared.network.NodeCfg.{NodeCfg}
 use Rattle.wrp_base.specs.declared.time.Clock.{Clock}
 use Rattle.wrp_base.specs.declared.time.Clock.TheVariants.{Mhz125, Mhz62}
 use Rattle.wrp_base.specs.Clock.{step_of}
-use Rattle.wrp_base.specs.Network.{IsAmong, HasNodeRanges}
+use Rattle.wrp_network.specs.Network.{HasNodeRanges}
+use Rattle.wrp_base.specs.Ranges.{IsAmong}
 use Rattle.wrp_caldb.specs.Database.{natural_at, number_at}
 use Rattle.wrp_caldb.specs.Name.{is_name, is_identity}
 use Rattle.wrp_caldb.specs.Refusal.{place_in_table}

@@ -5,7 +5,7 @@ use Rattle.std.proofs.lemmas.Int.{ints}
 use Rattle.std.specs.Prelude.{unwrap_or}
 use Rattle.std.specs.Int.Signed.{le_z}
 use Rattle.toml.specs.Data.{Data, as_integer}
-use Rattle.wrp_base.specs.Network.{IsFromTo, IsAmong}
+use Rattle.wrp_base.specs.Ranges.{IsFromTo, IsAmong}
 use Rattle.wrp_caldb.specs.Rows.{has_fault, in_range, number_in}
 use Rattle.wrp_caldb.specs.declared.row.Code.TheVariants as co
 use Rattle.wrp_config.specs.Keys.{number}

@@ -5,10 +5,10 @@ use Rattle.std.specs.Prelude.{codes, decimal}
 use Rattle.std.specs.List.{find}
 use Rattle.toml.specs.Data.{Members}
 use Rattle.std.proofs.lemmas.Option.{same_Some}
-use Rattle.wrp_base.specs.declared.configuration.NetCfg.{NetCfg}
+use Rattle.wrp_network.specs.declared.configuration.NetCfg.{NetCfg}
 use Rattle.wrp_base.specs.declared.fault.ConfFault.{ConfFault}
 use Rattle.wrp_base.specs.declared.fault.ConfFault.TheVariants.{Fault, Memory}
-use Rattle.wrp_base.specs.Network.{node_count}
+use Rattle.wrp_network.specs.Network.{node_count}
 use Rattle.wrp_bounds.proofs.Kept.{kept_of_none}
 use Rattle.wrp_bounds.specs.Inequalities.{is_broken, inequalities, answer_of}
 use Rattle.wrp_bounds.specs.declared.inequality.Clash.{Clash}

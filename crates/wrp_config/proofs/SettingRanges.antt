@@ -2,8 +2,8 @@
 use Rattle.std.proofs.Common.{◌≡◌, ◌≤◌, ℕ, ℤ, List, false, lit≤}
 use Rattle.std.specs.Prelude.{codes}
 use Rattle.toml.specs.Data.{Members, get_member}
-use Rattle.wrp_base.specs.declared.configuration.NetCfg.{NetCfg}
-use Rattle.wrp_base.specs.Network.{IsFromTo}
+use Rattle.wrp_network.specs.declared.configuration.NetCfg.{NetCfg}
+use Rattle.wrp_base.specs.Ranges.{IsFromTo}
 use Rattle.wrp_caldb.specs.Database.{number_at}
 use Rattle.wrp_caldb.specs.declared.place.At.TheVariants as tables
 use Rattle.wrp_caldb.specs.declared.row.Code.TheVariants as co

@@ -26,7 +26,7 @@ use Rattle.wrp_caldb.specs.declared.row.Code.{Code}
 use Rattle.wrp_caldb.specs.declared.row.Code.TheVariants as co
 use Rattle.wrp_caldb.proofs.Kept.{none_parts, if_none, at_fault, map-map}
 use Rattle.wrp_caldb.proofs.KeptNames.{IsText, plain_text, module_text, is_plain, module_named, name_read}
-use Rattle.wrp_base.specs.Network.{IsAmong}
+use Rattle.wrp_base.specs.Ranges.{IsAmong}
 use Rattle.wrp_law.specs.Law.{IsNear}
 use Rattle.wrp_law.specs.Table.{FitsPoint, Rises, IsWithin}
 use Rattle.wrp_law.specs.declared.delay.LawKind.TheVariants as la

@@ -7,7 +7,7 @@ use Rattle.std.specs.Prelude.{nat_lt, option_and_then}
 use Rattle.std.specs.List.{position_or_len, before_first, after_first}
 use Rattle.toml.specs.Data.{Data, as_table}
 use Rattle.std.proofs.lemmas.Option.{same_Some}
-use Rattle.wrp_base.specs.Network.{IsAmong}
+use Rattle.wrp_base.specs.Ranges.{IsAmong}
 use Rattle.wrp_caldb.specs.Name.{same_name}
 use Rattle.wrp_caldb.specs.Repeats.{are_same_texts, name_in}
 use Rattle.wrp_config.specs.Ends.{is_named, named, is_between, port_of, is_colon, both, end_in}

@@ -2,11 +2,11 @@
 -- its modules and fibres (this project's profile).
 use Rattle.std.specs.Prelude.{ℕ, ℤ, ◌≡◌, ◌≢◌, ◌↔◌, ◌+◌, ◌≤◌, max, map, fold, unsigned_abs, true, List, Option, None, Some, IsSome, IfSome, slice_get, ◌^◌}
 use Rattle.std.specs.List.{flat_map}
-use Rattle.wrp_base.specs.declared.configuration.NetCfg.{NetCfg}
-use Rattle.wrp_base.specs.declared.network.NodeCfg.{NodeCfg}
-use Rattle.wrp_base.specs.declared.network.LinkCfg.{LinkCfg}
+use Rattle.wrp_network.specs.declared.configuration.NetCfg.{NetCfg}
+use Rattle.wrp_network.specs.declared.network.NodeCfg.{NodeCfg}
+use Rattle.wrp_network.specs.declared.network.LinkCfg.{LinkCfg}
 use Rattle.wrp_base.specs.declared.link.Module.{Module}
-use Rattle.wrp_base.specs.Network.{IsLink, IsNode, HasRanges, NamesNoPortTwice, IsTree}
+use Rattle.wrp_network.specs.Network.{IsLink, IsNode, HasRanges, NamesNoPortTwice, IsTree}
 use Rattle.wrp_bounds.specs.Inequalities.{KeepsInequalities}
 use Rattle.wrp_caldb.specs.declared.database.Entry.{Entry}
 use Rattle.wrp_caldb.specs.Name.{is_name, is_module_name}

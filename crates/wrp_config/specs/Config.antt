@@ -2,9 +2,9 @@
 use Rattle.std.specs.Prelude.{◌≡◌, ◌+◌, ◌-◌, ◌*◌, ℕ, pos, List, [], Bool, true, Option, Some, None, codes, map, fold, nat_le, option_and_then, unwrap_or, if◌then◌else◌}
 use Rattle.toml.specs.Data.{Data, Members, as_bool, get_member}
 use Rattle.arrayvec.specs.ArrayString.{ArrayString}
-use Rattle.wrp_base.specs.declared.configuration.NetCfg.{NetCfg}
-use Rattle.wrp_base.specs.declared.network.NodeCfg.{NodeCfg}
-use Rattle.wrp_base.specs.declared.network.LinkCfg.{LinkCfg}
+use Rattle.wrp_network.specs.declared.configuration.NetCfg.{NetCfg}
+use Rattle.wrp_network.specs.declared.network.NodeCfg.{NodeCfg}
+use Rattle.wrp_network.specs.declared.network.LinkCfg.{LinkCfg}
 use Rattle.wrp_base.specs.declared.link.Fibre.{Fibre}
 use Rattle.wrp_base.specs.declared.time.Clock.{Clock}
 use Rattle.wrp_caldb.specs.Database.{Database, each_table, fibre_at, table_at, name_at, name_or_none, number_at, natural_at, database_of}

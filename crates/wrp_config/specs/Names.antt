@@ -2,10 +2,10 @@
 -- file order.
 use Rattle.std.specs.Prelude.{ℕ, ℤ, ◌==◌, ◌&&◌, ◌||◌, Bool, List, Option, slice_get, option_and_then, option_map, if◌then◌else◌, map}
 use Rattle.std.specs.List.{find, flat_map, filter, position}
-use Rattle.wrp_base.specs.declared.configuration.NetCfg.{NetCfg}
-use Rattle.wrp_base.specs.declared.network.LinkCfg.{LinkCfg}
+use Rattle.wrp_network.specs.declared.configuration.NetCfg.{NetCfg}
+use Rattle.wrp_network.specs.declared.network.LinkCfg.{LinkCfg}
 use Rattle.wrp_base.specs.declared.link.Module.{Module}
-use Rattle.wrp_base.specs.Network.{End, ends_of}
+use Rattle.wrp_network.specs.Network.{End, ends_of}
 use Rattle.wrp_caldb.specs.Name.{same_name}
 use Rattle.wrp_caldb.specs.Database.{Database, module_at, table_at}
 

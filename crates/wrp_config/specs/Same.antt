@@ -1,6 +1,6 @@
 -- One text has one answer (this project's profile).
 use Rattle.std.specs.Prelude.{◌≡◌, ℕ, List, map, Result, Ok, Err}
-use Rattle.wrp_base.specs.declared.configuration.NetCfg.{NetCfg}
+use Rattle.wrp_network.specs.declared.configuration.NetCfg.{NetCfg}
 use Rattle.wrp_base.specs.declared.fault.ConfFault.{ConfFault}
 use Rattle.wrp_base.specs.declared.fault.ConfFault.TheVariants.{Fault, Memory}
 use Rattle.wrp_config.specs.Accepted.{IsAccepted}

@@ -2,9 +2,9 @@
 -- project's profile). A node is told by its place from 0.
 use Rattle.std.specs.Prelude.{◌≡◌, ◌<◌, ◌&&◌, ◌||◌, ◌==◌, not, ℕ, zero, suc, ◌+◌, Bool, true, false, Option, Some, None, nat_lt, option_map, count_by}
 use Rattle.std.specs.Option.{is_some}
-use Rattle.wrp_base.specs.declared.configuration.NetCfg.{NetCfg}
-use Rattle.wrp_base.specs.declared.network.LinkCfg.{LinkCfg}
-use Rattle.wrp_base.specs.Network.{link_above, node_count}
+use Rattle.wrp_network.specs.declared.configuration.NetCfg.{NetCfg}
+use Rattle.wrp_network.specs.declared.network.LinkCfg.{LinkCfg}
+use Rattle.wrp_network.specs.Network.{link_above, node_count}
 use Rattle.wrp_config.specs.declared.tree.TreeFault.{TreeFault}
 use Rattle.wrp_config.specs.declared.tree.TreeFault.TheVariants.{NotATree, TwoSlaves, TooDeep}
 

@@ -17,7 +17,8 @@ use crate::links::links_of;
 use crate::settings::NetworkKey;
 use arrayvec::ArrayVec;
 use toml::{Table, Value};
-use wrp_base::{Clock, NetCfg, NodeCfg};
+use wrp_base::Clock;
+use wrp_network::{NetCfg, NodeCfg};
 use wrp_caldb::{Lists, is_identity, name_at, natural, number, tables_at};
 
 fn hex_value(octet: u8) -> u64

@@ -9,7 +9,8 @@ use crate::ends::{end_in, text_at};
 use crate::link_rows::{down_in, up_in};
 use arrayvec::ArrayVec;
 use toml::{Table, Value};
-use wrp_base::{Fibre, LinkCfg, Module, Name};
+use wrp_base::{Fibre, Module};
+use wrp_network::{LinkCfg, Name};
 use wrp_caldb::{ListedModule, Lists, name_at, value_at};
 
 // The name at a key; none where no name stands there.

@@ -19,7 +19,8 @@ use crate::network::Network;
 use crate::tree;
 use std::alloc::{AllocError, Global};
 use toml::Table;
-use wrp_base::{ConfFault, NetCfg};
+use wrp_base::ConfFault;
+use wrp_network::NetCfg;
 use wrp_bounds::check;
 use wrp_caldb::{CalDb, Lists, fault_at, syntax};
 

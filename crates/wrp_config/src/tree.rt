@@ -1,9 +1,9 @@
 //! Whether the links of a network make one tree, at most 8 links deep.
 ghost use Rattle.std.specs.Prelude.{◌≡◌, ◌+◌, ◌≤◌, IfSome, option_map};
-ghost use Rattle.wrp_base.specs.Network as network;
+ghost use Rattle.wrp_network.specs.Network as network;
 ghost use Rattle.wrp_config.specs.Tree.{is_root, some_below, depth_within, depth_of, stands_apart, has_two_parents, is_over_8, is_too_deep, has_fault, IsFirst, IsRefusal, number_of};
 
-use wrp_base::{LinkCfg, NetCfg};
+use wrp_network::{LinkCfg, NetCfg};
 
 /// Why the links make no such tree, by the number that a refusal's line has.
 #[derive(Clone, Copy)]

@@ -8,7 +8,8 @@ use Rattle.wrp_base.specs.declared.time.Clock.{Clock}
 use Rattle.wrp_base.specs.declared.time.Raw.{Raw}
 use Rattle.wrp_base.specs.Clock.{period_of}
 use Rattle.wrp_base.specs.Division.{floor_quotient}
-use Rattle.wrp_base.specs.Network.{End, other_of}
+use Rattle.wrp_network.specs.Network.{End}
+use Rattle.wrp_base.specs.Link.{other_of}
 use Rattle.wrp_base.proofs.Integers.{pos_le}
 use Rattle.wrp_phase.specs.Beat.{beat_bit}
 use Rattle.wrp_phase.specs.BeatPattern.{KeepsBeatPattern, true_step, steps_past}

@@ -5,8 +5,9 @@ use Rattle.wrp_base.specs.declared.link.LinkState.TheVariants.{Idle, LinkOn}
 use Rattle.wrp_base.specs.declared.link.Role.{Role}
 use Rattle.wrp_base.specs.declared.link.Role.TheVariants.{Master, Slave}
 use Rattle.wrp_base.specs.declared.message.PtpMsg.{PtpMsg}
-use Rattle.wrp_base.specs.declared.network.LinkCfg.{LinkCfg}
-use Rattle.wrp_base.specs.Network.{End, other_of}
+use Rattle.wrp_network.specs.declared.network.LinkCfg.{LinkCfg}
+use Rattle.wrp_network.specs.Network.{End}
+use Rattle.wrp_base.specs.Link.{other_of}
 use Rattle.wrp_base.proofs.Booleans.{not_both}
 use Rattle.wrp_bounds.specs.Times.{shortest_tick, frame_life}
 use Rattle.wrp_check.specs.Handshake.{SameHandshake}

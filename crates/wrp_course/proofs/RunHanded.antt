@@ -10,7 +10,8 @@ use Rattle.wrp_base.specs.declared.link.Role.TheVariants.{Master, Slave}
 use Rattle.wrp_base.specs.declared.message.Body.{Body}
 use Rattle.wrp_base.specs.declared.message.Body.TheVariants.{Sync, DelayReq, FollowUp, DelayResp, Announce, Signal}
 use Rattle.wrp_base.specs.declared.message.PtpMsg.{PtpMsg}
-use Rattle.wrp_base.specs.Network.{End, other_of}
+use Rattle.wrp_network.specs.Network.{End}
+use Rattle.wrp_base.specs.Link.{other_of}
 use Rattle.wrp_base.specs.Message.{is_port}
 use Rattle.wrp_bounds.specs.Times.{frame_life}
 use Rattle.wrp_data.specs.declared.reason.Reason.{Reason}

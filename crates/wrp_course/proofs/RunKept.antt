@@ -7,8 +7,9 @@ use Rattle.std.proofs.lemmas.Option.{none-some, same_Some}
 use Rattle.wrp_base.specs.declared.link.Module.{Module}
 use Rattle.wrp_base.specs.declared.link.Role.{Role}
 use Rattle.wrp_base.specs.declared.link.Role.TheVariants.{Master, Slave}
-use Rattle.wrp_base.specs.declared.network.LinkCfg.{LinkCfg}
-use Rattle.wrp_base.specs.Network.{End, other_of}
+use Rattle.wrp_network.specs.declared.network.LinkCfg.{LinkCfg}
+use Rattle.wrp_network.specs.Network.{End}
+use Rattle.wrp_base.specs.Link.{other_of}
 use Rattle.wrp_config.specs.Laws.{ChildIsDeeper}
 use Rattle.wrp_handshake.specs.Ends.{Port}
 use Rattle.wrp_handshake.specs.Laws.{OnInTheSameHandshake as OnAsOneLink, OnWithTheDeltas as DeltasAsOneLink, CarrierWithItsModule as ModuleAsOneLink}

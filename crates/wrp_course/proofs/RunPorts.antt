@@ -8,7 +8,7 @@ use Rattle.wrp_base.specs.declared.message.Body.{Body}
 use Rattle.wrp_base.specs.declared.message.Body.TheVariants.{Sync, DelayReq, FollowUp, DelayResp, Announce, Signal}
 use Rattle.wrp_base.specs.declared.message.PtpMsg.{PtpMsg}
 use Rattle.wrp_base.specs.declared.message.WrMsg.{WrMsg}
-use Rattle.wrp_base.specs.Network.{End}
+use Rattle.wrp_network.specs.Network.{End}
 use Rattle.wrp_base.proofs.Naturals.{eq_self}
 use Rattle.wrp_data.specs.declared.reason.Reason.{Reason}
 use Rattle.wrp_frame.specs.declared.fault.FrameFault.{FrameFault}

@@ -6,8 +6,8 @@ use Rattle.std.specs.Int.Signed.{le_z}
 use Rattle.std.specs.List.{Contains}
 use Rattle.wrp_base.specs.declared.link.Role.{Role}
 use Rattle.wrp_base.specs.declared.message.PtpMsg.{PtpMsg}
-use Rattle.wrp_base.specs.declared.network.LinkCfg.{LinkCfg}
-use Rattle.wrp_base.specs.Network.{End}
+use Rattle.wrp_network.specs.declared.network.LinkCfg.{LinkCfg}
+use Rattle.wrp_network.specs.Network.{End}
 use Rattle.wrp_base.proofs.Integers.{int_le_trans}
 use Rattle.wrp_bounds.specs.Times.{frame_life}
 use Rattle.wrp_node.specs.declared.interface.Output.{Output}

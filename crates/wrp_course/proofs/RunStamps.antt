@@ -7,7 +7,8 @@ use Rattle.std.specs.Option.{option_map_or}
 use Rattle.std.proofs.lemmas.Option.{same_Some}
 use Rattle.wrp_base.specs.declared.message.PtpMsg.{PtpMsg}
 use Rattle.wrp_base.specs.declared.time.Raw.{Raw}
-use Rattle.wrp_base.specs.Network.{End, other_of}
+use Rattle.wrp_network.specs.Network.{End}
+use Rattle.wrp_base.specs.Link.{other_of}
 use Rattle.wrp_bounds.specs.Times.{frame_life}
 use Rattle.wrp_frame.specs.declared.fault.FrameFault.{FrameFault}
 use Rattle.wrp_course.specs.declared.event.Event.{Event}

@@ -1,9 +1,10 @@
 -- Which events can come to a network: those that a line can say (this project's profile).
 use Rattle.std.specs.Prelude.{ℕ, ℤ, pos, ◌≡◌, ◌≢◌, ◌≤◌, ◌≤ℤ◌, ◌<◌, ◌^◌, ◌%◌, unsigned_abs, true, List, length}
 use Rattle.std.specs.List.{AllByRecursion, AllPairs}
-use Rattle.wrp_base.specs.declared.configuration.NetCfg.{NetCfg}
+use Rattle.wrp_network.specs.declared.configuration.NetCfg.{NetCfg}
 use Rattle.wrp_base.specs.declared.time.Raw.{Raw}
-use Rattle.wrp_base.specs.Network.{IsAmong, IsFromTo, node_count}
+use Rattle.wrp_network.specs.Network.{node_count}
+use Rattle.wrp_base.specs.Ranges.{IsAmong, IsFromTo}
 use Rattle.wrp_base.specs.Octets.{AreOctets}
 use Rattle.wrp_caldb.specs.Name.{is_name}
 use Rattle.wrp_course.specs.declared.event.Event.{Event}

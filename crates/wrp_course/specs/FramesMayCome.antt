@@ -2,7 +2,7 @@
 use Rattle.std.specs.Prelude.{◌≡◌, ◌≤◌, ◌+ℤ◌, ◌≤ℤ◌, ℕ, pos, List, ◌∷◌, ◌++◌, length, Some, Result}
 use Rattle.std.specs.List.{Contains}
 use Rattle.wrp_base.specs.declared.message.PtpMsg.{PtpMsg}
-use Rattle.wrp_base.specs.Network.{End}
+use Rattle.wrp_network.specs.Network.{End}
 use Rattle.wrp_bounds.specs.Times.{frame_life}
 use Rattle.wrp_frame.specs.declared.fault.FrameFault.{FrameFault}
 use Rattle.wrp_frame.specs.SentOctets.{octets_of}

@@ -2,7 +2,7 @@
 -- (this project's profile).
 use Rattle.std.specs.Prelude.{◌≡◌, ◌≢◌, ℕ, List, Some, Result, Ok, Err}
 use Rattle.wrp_base.specs.declared.link.LinkState.TheVariants.{LinkOn}
-use Rattle.wrp_base.specs.Network.{other_of}
+use Rattle.wrp_base.specs.Link.{other_of}
 use Rattle.wrp_check.specs.declared.verdict.Verdict.{Verdict}
 use Rattle.wrp_check.specs.declared.verdict.Verdict.TheVariants.{NotOn}
 use Rattle.wrp_check.specs.Judged.{Judges}

@@ -1,9 +1,10 @@
 -- What holds of every world and every event (this project's profile).
 use Rattle.std.specs.Prelude.{◌≡◌, ℕ, [], None, Some, Result}
 use Rattle.wrp_base.specs.declared.message.PtpMsg.{PtpMsg}
-use Rattle.wrp_base.specs.declared.network.LinkCfg.{LinkCfg}
+use Rattle.wrp_network.specs.declared.network.LinkCfg.{LinkCfg}
 use Rattle.wrp_base.specs.declared.time.Raw.{Raw}
-use Rattle.wrp_base.specs.Network.{End, other_of}
+use Rattle.wrp_network.specs.Network.{End}
+use Rattle.wrp_base.specs.Link.{other_of}
 use Rattle.wrp_frame.specs.declared.fault.FrameFault.{FrameFault}
 use Rattle.wrp_phase.specs.BeatPattern.{KeepsBeatPattern}
 use Rattle.wrp_stamp.specs.StampBound.{KeepsStampBound}

@@ -7,14 +7,15 @@ use Rattle.std.specs.Option.{is_some, option_map_or}
 use Rattle.wrp_base.specs.Circle.{distance_round}
 use Rattle.wrp_base.specs.Clock.{period_of}
 use Rattle.wrp_base.specs.Division.{floor_quotient}
-use Rattle.wrp_base.specs.declared.configuration.NetCfg.{NetCfg}
+use Rattle.wrp_network.specs.declared.configuration.NetCfg.{NetCfg}
 use Rattle.wrp_base.specs.declared.link.Module.{Module}
 use Rattle.wrp_base.specs.declared.link.Role.TheVariants.{Master, Slave}
 use Rattle.wrp_base.specs.declared.message.PtpMsg.{PtpMsg}
-use Rattle.wrp_base.specs.declared.network.LinkCfg.{LinkCfg}
+use Rattle.wrp_network.specs.declared.network.LinkCfg.{LinkCfg}
 use Rattle.wrp_base.specs.declared.time.Clock.{Clock}
 use Rattle.wrp_base.specs.declared.time.Raw.{Raw}
-use Rattle.wrp_base.specs.Network.{link_above, other_of}
+use Rattle.wrp_network.specs.Network.{link_above}
+use Rattle.wrp_base.specs.Link.{other_of}
 use Rattle.wrp_base.specs.Message.{is_port}
 use Rattle.wrp_bounds.specs.Times.{shortest_tick, longest_tick, frame_life, reach}
 use Rattle.wrp_frame.specs.declared.fault.FrameFault.{FrameFault}

@@ -1,13 +1,13 @@
 -- Worked rows, computed over a network of two nodes with the numbers that a file without keys has: a grandmaster, number
 -- 0, a switch, number 1, and the link between them (this project's profile).
 use Rattle.std.specs.Prelude.{◌≡◌, ◌==◌, ℕ, ℤ, pos, negsuc, ◌^◌, codes, true, if◌then◌else◌, List, [], ◌∷◌, map, Option, None, Some, Err}
-use Rattle.wrp_base.specs.declared.configuration.NetCfg.{NetCfg}
+use Rattle.wrp_network.specs.declared.configuration.NetCfg.{NetCfg}
 use Rattle.wrp_base.specs.declared.link.LinkWord.{LinkWord}
 use Rattle.wrp_base.specs.declared.link.LinkWord.TheVariants.{Quiet}
 use Rattle.wrp_base.specs.declared.link.Module.{Module}
 use Rattle.wrp_base.specs.declared.link.Role.TheVariants.{Master, Slave}
-use Rattle.wrp_base.specs.declared.network.LinkCfg.{LinkCfg}
-use Rattle.wrp_base.specs.declared.network.NodeCfg.{NodeCfg}
+use Rattle.wrp_network.specs.declared.network.LinkCfg.{LinkCfg}
+use Rattle.wrp_network.specs.declared.network.NodeCfg.{NodeCfg}
 use Rattle.wrp_base.specs.declared.time.Clock.TheVariants.{Mhz125}
 use Rattle.wrp_caldb.specs.Database.{Database}
 use Rattle.wrp_data.specs.declared.datasets.PortDs.{PortDs}

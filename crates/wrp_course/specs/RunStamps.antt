@@ -1,6 +1,7 @@
 -- What is true of the departure and of the arrival of each frame, in the world before that event (this project's profile).
 use Rattle.std.specs.Prelude.{◌≡◌, ℕ, pos, ◌+ℤ◌, ◌-ℤ◌, ◌≤◌, ◌≤ℤ◌, unsigned_abs, true, List, ◌∷◌, ◌++◌, Some, IfSome}
-use Rattle.wrp_base.specs.Network.{End, other_of}
+use Rattle.wrp_network.specs.Network.{End}
+use Rattle.wrp_base.specs.Link.{other_of}
 use Rattle.wrp_bounds.specs.Times.{frame_life}
 use Rattle.wrp_course.specs.Laws.{KeepsStamp}
 use Rattle.wrp_course.specs.Run.{Happened, world_after}

@@ -1,6 +1,6 @@
 -- Runs of an accepted network, and what a frame's port put out (this project's profile).
 use Rattle.std.specs.Prelude.{◌≡◌, ◌⊎◌, ℕ, List, [], ◌∷◌}
-use Rattle.wrp_base.specs.declared.configuration.NetCfg.{NetCfg}
+use Rattle.wrp_network.specs.declared.configuration.NetCfg.{NetCfg}
 use Rattle.wrp_config.specs.Accepted.{IsAccepted}
 use Rattle.wrp_node.specs.Set.{set_of}
 use Rattle.wrp_course.specs.EventAt.{IsEventOf}

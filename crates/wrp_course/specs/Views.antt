@@ -2,7 +2,7 @@
 use Rattle.std.specs.Prelude.{◌≡◌, ◌⊎◌, ◌||◌, ℕ, ℤ, pos, ◌+ℤ◌, ◌-ℤ◌, ◌<ℤ◌, ◌≤◌, Bool, true, false, if◌then◌else◌, List, [], ◌∷◌, count_by, reverse, Option, None, Some, option_map, option_and_then}
 use Rattle.std.specs.Int.Signed.{le_z}
 use Rattle.wrp_base.specs.declared.link.Mark.{Mark}
-use Rattle.wrp_base.specs.Network.{End}
+use Rattle.wrp_network.specs.Network.{End}
 use Rattle.wrp_bounds.specs.Times.{shortest_tick, longest_tick, frame_life}
 use Rattle.wrp_frame.specs.SentOctets.{octets_of}
 use Rattle.wrp_course.specs.declared.place.Place.{Place}

@@ -7,7 +7,7 @@ use Rattle.wrp_base.specs.declared.link.Module.{Module}
 use Rattle.wrp_base.specs.declared.link.Role.{Role}
 use Rattle.wrp_base.specs.declared.link.Role.TheVariants.{Master, Slave}
 use Rattle.wrp_base.specs.declared.message.PtpMsg.{PtpMsg}
-use Rattle.wrp_base.specs.declared.network.LinkCfg.{LinkCfg}
+use Rattle.wrp_network.specs.declared.network.LinkCfg.{LinkCfg}
 use Rattle.wrp_base.specs.declared.time.Raw.{Raw}
 use Rattle.wrp_node.specs.NodeAt.{NodeAt, Taken}
 use Rattle.wrp_node.specs.NodeRun.{new_node}

@@ -1,6 +1,7 @@
 //! What happens in a world.
 use arrayvec::ArrayVec;
-use wrp_base::{Frame, Name, Raw, Tau};
+use wrp_base::{Frame, Raw, Tau};
+use wrp_network::Name;
 
 /// A module that is put in place at a port while its node is down.
 #[derive(Debug, Default, Drop, PartialEq, Eq)]

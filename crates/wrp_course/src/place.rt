@@ -1,11 +1,12 @@
 //! Which end of which link a port of a node is.
 ghost use Rattle.std.specs.Prelude.{◌≡◌, ◌<◌, length, IfSome};
-ghost use Rattle.wrp_base.specs.Network.{other_of};
+ghost use Rattle.wrp_base.specs.Link.{other_of};
 ghost use Rattle.wrp_config.specs.Names as names;
 ghost use Rattle.wrp_course.specs.Setting.{place_among};
 ghost use Rattle.wrp_course.specs.Setting.{across};
 
-use wrp_base::{LinkCfg, NetCfg, Role};
+use wrp_base::Role;
+use wrp_network::{LinkCfg, NetCfg};
 
 /// An end of a link.
 #[derive(Clone, Copy, Debug, PartialEq, Eq)]

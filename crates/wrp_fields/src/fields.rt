@@ -2,7 +2,7 @@
 ghost use Rattle.std.specs.Prelude.{◌≡◌, ◌<◌, IfOk};
 ghost use Rattle.csv.specs.Records.{fields_of};
 ghost use Rattle.wrp_base.specs.declared.fault.TraceFault.TheVariants.{Number, Name};
-ghost use Rattle.wrp_base.specs.Network.{IsAmong};
+ghost use Rattle.wrp_base.specs.Ranges.{IsAmong};
 ghost use Rattle.wrp_fields.specs.Fields.{number_at};
 ghost use Rattle.wrp_fields.specs.Reading.{field_of};
 

@@ -7,7 +7,7 @@ use Rattle.std.specs.Cmp.{unsigned_tied}
 use Rattle.std.specs.Option.{is_some, option_map_or}
 use Rattle.std.specs.Ordering.{nat_cmp}
 use Rattle.wrp_base.specs.declared.link.Role.{Role}
-use Rattle.wrp_base.specs.declared.network.LinkCfg.{LinkCfg}
+use Rattle.wrp_network.specs.declared.network.LinkCfg.{LinkCfg}
 use Rattle.wrp_flights.specs.declared.departed.Departed.{Departed}
 use Rattle.wrp_flights.specs.declared.departed.Reception.{Reception}
 use Rattle.wrp_flights.specs.declared.losing.Loss.{Loss}

@@ -15,7 +15,8 @@ use crate::puts::{keep_due, receive};
 use std::alloc::{AllocError, Global};
 use std::collections::{BTreeMap, BTreeSet};
 use std::marker::Model;
-use wrp_base::{LinkCfg, Role, Tau, sum};
+use wrp_base::{Role, Tau, sum};
+use wrp_network::LinkCfg;
 
 /// The frames that departed, numbered from 1 in the order of their departures.
 #[derive(Debug, Drop)]

@@ -11,7 +11,8 @@ ghost use Rattle.wrp_flights.specs.Losing as spec;
 use crate::departed::Departed;
 use crate::puts::forget_old;
 use std::collections::BTreeMap;
-use wrp_base::{LinkCfg, Role, Tau};
+use wrp_base::{Role, Tau};
+use wrp_network::LinkCfg;
 
 /// Which frames on fibres are lost.
 #[derive(Clone, Copy)]

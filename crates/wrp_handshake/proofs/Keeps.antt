@@ -6,7 +6,7 @@ use Rattle.wrp_base.specs.declared.link.LinkState.TheVariants.{Idle}
 use Rattle.wrp_base.specs.declared.link.Mark.{Mark}
 use Rattle.wrp_base.specs.declared.link.Role.{Role}
 use Rattle.wrp_base.specs.declared.link.Role.TheVariants.{Master, Slave}
-use Rattle.wrp_base.specs.Network.{other_of}
+use Rattle.wrp_base.specs.Link.{other_of}
 use Rattle.wrp_check.specs.Required.{required_of}
 use Rattle.wrp_link.proofs.Fits.{Belongs}
 use Rattle.wrp_check.specs.Stretches.{stretches_of, BeganBy, LastsTo, LiesIn, Entered, movers_of}

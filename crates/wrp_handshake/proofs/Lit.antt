@@ -10,7 +10,7 @@ use Rattle.wrp_base.specs.declared.link.Role.{Role}
 use Rattle.wrp_base.specs.declared.link.Role.TheVariants.{Master, Slave}
 use Rattle.wrp_base.specs.declared.message.WrMsg.{WrMsg}
 use Rattle.wrp_base.specs.declared.message.WrMsg.TheVariants.{Calibrated as CALIBRATED, ModeOn as WR_MODE_ON}
-use Rattle.wrp_base.specs.Network.{other_of}
+use Rattle.wrp_base.specs.Link.{other_of}
 use Rattle.wrp_base.proofs.Integers.{int_le_self}
 use Rattle.wrp_base.proofs.Options.{pair_there}
 use Rattle.wrp_link.specs.declared.interface.LinkIn.{LinkIn}

@@ -8,7 +8,7 @@ use Rattle.wrp_base.specs.declared.link.Module.{Module}
 use Rattle.wrp_base.specs.declared.link.Role.{Role}
 use Rattle.wrp_base.specs.declared.link.Role.TheVariants.{Master, Slave}
 use Rattle.wrp_base.specs.declared.message.WrMsg.{WrMsg}
-use Rattle.wrp_base.specs.Network.{other_of}
+use Rattle.wrp_base.specs.Link.{other_of}
 use Rattle.wrp_link.specs.declared.interface.LinkIn.{LinkIn}
 use Rattle.wrp_link.specs.declared.interface.LinkIn.TheVariants.{Msg, Tick, CarrierUp}
 use Rattle.wrp_link.specs.declared.interface.LinkSet.{LinkSet}

@@ -5,7 +5,7 @@ use Rattle.std.specs.Prelude.{ℕ, pos, ◌≤◌, ◌==◌, if◌then◌else◌
 use Rattle.wrp_base.specs.declared.fault.TraceFault.{TraceFault}
 use Rattle.wrp_base.specs.declared.fault.TraceFault.TheVariants.{Fields, Kind}
 use Rattle.wrp_base.specs.Lines.{parts_of}
-use Rattle.wrp_base.specs.Network.{IsAmong}
+use Rattle.wrp_base.specs.Ranges.{IsAmong}
 use Rattle.wrp_fields.specs.Reading.{◌>>=◌, field_of, is_plain}
 use Rattle.wrp_l1sync.specs.declared.event.L1Event.{L1Event}
 use Rattle.wrp_l1sync.specs.declared.event.L1Event.TheVariants as event

@@ -7,7 +7,7 @@
 //!     count PORT REASON VALUE                                      a counter; the reason is a number
 //!     sum TICKS TRACKS WORST BOUND STATE                           what sums up its run
 ghost use Rattle.std.specs.Prelude.{◌<◌};
-ghost use Rattle.wrp_base.specs.Network.{node_count};
+ghost use Rattle.wrp_network.specs.Network.{node_count};
 ghost use Rattle.wrp_config.specs.Accepted.{IsAccepted};
 
 use crate::octets::frame_of;

@@ -1,6 +1,6 @@
 //! The lines of the counters of dropped frames.
 ghost use Rattle.std.specs.Prelude.{◌≡◌, ◌∷◌, ◌++◌, ◌<◌, ◌≤◌, IfOk, OnOk, OnErr};
-ghost use Rattle.wrp_base.specs.Network.{node_count};
+ghost use Rattle.wrp_network.specs.Network.{node_count};
 ghost use Rattle.wrp_lines.specs.Lines as lines;
 ghost use Rattle.wrp_lines.specs.Lines.{count_line_of, count_words};
 ghost use Rattle.wrp_records.specs.Words.{line_of};

@@ -2,7 +2,7 @@
 ghost use Rattle.std.specs.String.{string_bytes};
 ghost use Rattle.std.specs.Prelude.{◌≡◌, ◌∷◌, ◌++◌, ◌<◌, ◌^◌, ◌≤ℤ◌, ◌<ℤ◌, pos, IfOk, OnOk, OnErr};
 ghost use Rattle.hex.specs.Hex.{encode_lower};
-ghost use Rattle.wrp_base.specs.Network.{HasRanges, IsTree, node_count};
+ghost use Rattle.wrp_network.specs.Network.{HasRanges, IsTree, node_count};
 ghost use Rattle.wrp_bounds.specs.Bounds.{path_of};
 ghost use Rattle.wrp_lines.specs.Lines as lines;
 ghost use Rattle.wrp_lines.specs.Lines.{dac_words, link_words, output_line_of, report_words, send_words, servo_words, step_words, track_words};
@@ -11,7 +11,8 @@ ghost use Rattle.wrp_records.specs.Words.{line_of};
 use crate::words::{name_of_node, text_of_link, text_of_servo};
 use itoa::Buffer;
 use std::alloc::{AllocError, Global};
-use wrp_base::{Frame, NetCfg, Tau};
+use wrp_base::{Frame, Tau};
+use wrp_network::NetCfg;
 use wrp_bounds::path;
 use wrp_config::Network;
 use wrp_node::{Output, Report};

@@ -1,9 +1,10 @@
 //! How nodes, the words of links, the states of servos and reasons are written.
 ghost use Rattle.std.specs.Prelude.{◌≡◌, ◌<◌, ◌≤◌};
-ghost use Rattle.wrp_base.specs.Network.{name_at, node_count};
+ghost use Rattle.wrp_network.specs.Network.{name_at, node_count};
 ghost use Rattle.wrp_lines.specs.Words.{link_word, reason_word, servo_word};
 
-use wrp_base::{LinkState, LinkWord, NetCfg, ServoState};
+use wrp_base::{LinkState, LinkWord, ServoState};
+use wrp_network::NetCfg;
 use wrp_data::Reason;
 
 /// The name of the node of this number.

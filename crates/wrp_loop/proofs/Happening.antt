@@ -1,7 +1,7 @@
 -- An event that comes, and its lines.
 use Rattle.std.proofs.Common.{◌≡◌, ◌∙◌, ap, ap₂, sym, ℕ, ℤ, List, ◌++◌, map, flat_map, append_assoc, Option, Some, option_map, slice_get, Result, Ok, Err, IfOk, OnErr, OnOk}
 use Rattle.std.specs.List.{concat}
-use Rattle.wrp_base.specs.declared.configuration.NetCfg.{NetCfg}
+use Rattle.wrp_network.specs.declared.configuration.NetCfg.{NetCfg}
 use Rattle.wrp_lines.specs.Lines.{output_line}
 use Rattle.wrp_node.specs.declared.interface.Output.{Output}
 use Rattle.wrp_node.specs.NodeAt.{NodeAt, NodeSetting, Taken}

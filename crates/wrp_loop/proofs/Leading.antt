@@ -1,7 +1,7 @@
 -- A loop from its start, round by round.
 use Rattle.std.proofs.Common.{◌≡◌, ◌∙◌, inl, inr, refl, ap, sym, subst, ℕ, ℤ, ◌*◌, ◌≤◌, true, false, Option, None, Some, option_map, List, [], ◌∷◌, ◌++◌, append_assoc, append-nil, Result, Ok, Err, arith}
 use Rattle.wrp_base.proofs.Lists.{all_append}
-use Rattle.wrp_base.specs.declared.configuration.NetCfg.{NetCfg}
+use Rattle.wrp_network.specs.declared.configuration.NetCfg.{NetCfg}
 use Rattle.wrp_caldb.specs.Database.{Database}
 use Rattle.wrp_config.specs.Accepted.{IsAccepted}
 use Rattle.wrp_io.specs.declared.link.LinkCall.{LinkCall}

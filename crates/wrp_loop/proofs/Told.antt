@@ -5,7 +5,7 @@ use Rattle.std.specs.List.{concat}
 use Rattle.arrayvec.specs.ArrayVec.{ArrayVec}
 use Rattle.wrp_base.specs.declared.link.Role.{Role}
 use Rattle.wrp_base.specs.declared.time.Raw.{Raw}
-use Rattle.wrp_base.specs.Network.{other_of}
+use Rattle.wrp_base.specs.Link.{other_of}
 use Rattle.wrp_frame.specs.SentOctets.{octets_of}
 use Rattle.wrp_io.specs.declared.link.LinkCall.{LinkCall}
 use Rattle.wrp_servo.specs.Told.{ToldLast}

@@ -1,7 +1,7 @@
 //! The lines that a loop writes: each event, and what the nodes' steps in it put out.
 ghost use Rattle.std.specs.Prelude.{◌≡◌, ◌<◌, ◌++◌, Some, IfOk, OnOk, map};
 ghost use Rattle.std.specs.List.{concat, flat_map};
-ghost use Rattle.wrp_base.specs.Network.{node_count};
+ghost use Rattle.wrp_network.specs.Network.{node_count};
 ghost use Rattle.wrp_config.specs.Accepted.{IsAccepted};
 ghost use Rattle.wrp_lines.specs.Lines as lines;
 ghost use Rattle.wrp_loop.specs.LoopText.{forged_lines, marked_line, step_lines};

@@ -1,6 +1,6 @@
 //! The way of a frame: the numbers of the ends of its link, and the port that it comes to.
 ghost use Rattle.std.specs.Prelude.{◌≡◌, ◌<◌, Some, length, option_map, slice_get};
-ghost use Rattle.wrp_base.specs.Network.{node_count};
+ghost use Rattle.wrp_network.specs.Network.{node_count};
 ghost use Rattle.wrp_loop.specs.Datagrams.{end_number};
 ghost use Rattle.wrp_loop.specs.LoopStands.{Flies, RoutesFrame};
 ghost use Rattle.wrp_node.specs.Set.{identity_of};
@@ -9,7 +9,8 @@ ghost use Rattle.wrp_course.specs.Setting.{Setting, end_of};
 ghost use Rattle.wrp_course.specs.WorldAt.{FrameAt, WorldAt};
 ghost use Rattle.wrp_world.specs.StandsFor.{IsValid, StandsFor};
 
-use wrp_base::{NetCfg, PortIdentity, Role};
+use wrp_base::{PortIdentity, Role};
+use wrp_network::NetCfg;
 use wrp_course::{Place, place_of};
 use wrp_world::World;
 

@@ -10,7 +10,7 @@ use Rattle.std.specs.Fmt.{decimal, digit_glyph, digits, digits_onto, signed_deci
 use Rattle.std.specs.List.{All, AllByRecursion, concat}
 use Rattle.std.specs.Prelude.{slice_index_or}
 use Rattle.wrp_base.specs.declared.link.ServoState.{ServoState}
-use Rattle.wrp_base.specs.Network.{name_at}
+use Rattle.wrp_network.specs.Network.{name_at}
 use Rattle.wrp_base.proofs.Lists.{all_append}
 use Rattle.wrp_bounds.specs.Bounds.{path_of}
 use Rattle.wrp_config.specs.Accepted.{HasNames}

@@ -2,7 +2,7 @@
 -- and where none of them applies the first hands the frame over.
 use Rattle.std.proofs.Common.{◌≡◌, ◌⊎◌, inl, inr, refl, sym, subst, ℕ, ℤ, ◌-◌, nat_lt, Bool, true, false, if◌then◌else◌, List, [], ◌∷◌, find, Option, None, Some, option_and_then}
 use Rattle.std.proofs.lemmas.Option.{none-some, same_Some}
-use Rattle.wrp_base.specs.Network.{node_count}
+use Rattle.wrp_network.specs.Network.{node_count}
 use Rattle.wrp_course.specs.declared.event.Event.TheVariants.{Deliver}
 use Rattle.wrp_course.specs.EventAt.{link_count}
 use Rattle.wrp_course.specs.Setting.{Setting, above, link_of}

@@ -4,7 +4,7 @@ use Rattle.std.proofs.Common.{◌≡◌, ◌∙◌, ◌⊎◌, inl, inr, refl, a
 use Rattle.std.proofs.lemmas.Option.{none-some, same_Some}
 use Rattle.std.specs.Ordering.{int_eq}
 use Rattle.wrp_base.specs.declared.time.Raw.{Raw}
-use Rattle.wrp_base.specs.Network.{node_count}
+use Rattle.wrp_network.specs.Network.{node_count}
 use Rattle.wrp_course.specs.declared.event.Event.TheVariants.{Arrive, Deliver}
 use Rattle.wrp_course.specs.EventAt.{link_count}
 use Rattle.wrp_course.specs.Setting.{Setting, nodes_of}

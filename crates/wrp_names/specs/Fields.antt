@@ -1,6 +1,6 @@
 -- The fields of a line that name a node or a link of a network (this project's profile).
 use Rattle.std.specs.Prelude.{ℕ, Result, List}
-use Rattle.wrp_base.specs.declared.configuration.NetCfg.{NetCfg}
+use Rattle.wrp_network.specs.declared.configuration.NetCfg.{NetCfg}
 use Rattle.wrp_base.specs.declared.fault.TraceFault.{TraceFault}
 use Rattle.wrp_config.specs.Names.{node_named, link_named}
 use Rattle.wrp_fields.specs.Reading.{field_of, name_or_fault}

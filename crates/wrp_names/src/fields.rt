@@ -1,12 +1,13 @@
 //! The fields of a line that name a node or a link, by their places from 1: what each says, or its fault.
 ghost use Rattle.std.specs.Prelude.{◌≡◌, ◌<◌, IfOk, length};
 ghost use Rattle.csv.specs.Records.{fields_of};
-ghost use Rattle.wrp_base.specs.Network.{node_count};
+ghost use Rattle.wrp_network.specs.Network.{node_count};
 ghost use Rattle.wrp_names.specs.Fields.{node_at, link_at};
 
 use crate::names::{link_named, node_named};
 use csv::ByteRecord;
-use wrp_base::{NetCfg, TraceFault};
+use wrp_base::TraceFault;
+use wrp_network::NetCfg;
 use wrp_fields::{field, name_fault};
 
 /// The node that the field of a place names. The fault is that it is no node's name.

@@ -1,11 +1,11 @@
 //! Names of nodes and links, as octets of a line.
 ghost use Rattle.std.specs.Prelude.{◌≡◌, ◌<◌, IfSome, length};
 ghost use Rattle.std.specs.List.{position};
-ghost use Rattle.wrp_base.specs.Network.{node_count};
+ghost use Rattle.wrp_network.specs.Network.{node_count};
 ghost use Rattle.wrp_caldb.specs.Name.{same_name};
 ghost use Rattle.wrp_config.specs.Names.{node_named, link_named};
 
-use wrp_base::{LinkCfg, NetCfg, NodeCfg};
+use wrp_network::{LinkCfg, NetCfg, NodeCfg};
 
 // Whether a node has a name.
 fn is_node_named(node: &NodeCfg, name: &[u8]) -> bool

@@ -1,9 +1,9 @@
 -- What a line of events says, and what an input's line is, do not see the unused room of names.
 use Rattle.std.proofs.Common.{◌≡◌, ◌∙◌, refl, ap, ap₂, ℕ, ℤ, ◌+◌, true, false, Option, None, Some, Result, Ok, List, [], ◌∷◌, map, drop}
-use Rattle.wrp_base.specs.declared.configuration.NetCfg.{NetCfg}
+use Rattle.wrp_network.specs.declared.configuration.NetCfg.{NetCfg}
 use Rattle.wrp_base.specs.declared.fault.TraceFault.{TraceFault}
-use Rattle.wrp_base.specs.declared.network.LinkCfg.{LinkCfg}
-use Rattle.wrp_base.specs.declared.network.NodeCfg.{NodeCfg}
+use Rattle.wrp_network.specs.declared.network.LinkCfg.{LinkCfg}
+use Rattle.wrp_network.specs.declared.network.NodeCfg.{NodeCfg}
 use Rattle.wrp_base.specs.Lines.{parts_of}
 use Rattle.wrp_caldb.specs.Name.{same_name}
 use Rattle.wrp_config.proofs.Lists.{position-map}

@@ -1,8 +1,8 @@
 -- The laws of all nodes, as they are made one after another, fit the network.
 use Rattle.std.proofs.Common.{◌≡◌, ◌∙◌, refl, ap, ap₂, sym, subst, ℕ, ℤ, pos, ◌==◌, ◌≤ℤ◌, Bool, true, false, if◌then◌else◌, List, length, Option, None, Some, IfSome, is_some, option_map}
 use Rattle.std.specs.Prelude.{slice_get}
-use Rattle.wrp_base.specs.declared.network.LinkCfg.{LinkCfg}
-use Rattle.wrp_base.specs.Network.{link_above, node_count}
+use Rattle.wrp_network.specs.declared.network.LinkCfg.{LinkCfg}
+use Rattle.wrp_network.specs.Network.{link_above, node_count}
 use Rattle.wrp_base.proofs.Naturals.{le_of_same}
 use Rattle.wrp_caldb.specs.Database.{Database}
 use Rattle.wrp_config.proofs.Bare.{above_bare, above_some}

@@ -1,10 +1,10 @@
 -- What the laws of the links answer is near the exact fraction, in every network that is accepted.
 use Rattle.std.proofs.Common.{◌≡◌, ◌∙◌, refl, ap, sym, subst, ℕ, ℤ, pos, ◌*◌, ◌≤◌, ◌^◌, ◌+ℤ◌, ◌-ℤ◌, ◌*ℤ◌, ◌≤ℤ◌, ◌<ℤ◌, unsigned_abs, length, Option, None, Some, IfSome, arith}
 use Rattle.std.proofs.lemmas.Int.{ints}
-use Rattle.wrp_base.specs.declared.configuration.NetCfg.{NetCfg}
-use Rattle.wrp_base.specs.declared.network.LinkCfg.{LinkCfg}
+use Rattle.wrp_network.specs.declared.configuration.NetCfg.{NetCfg}
+use Rattle.wrp_network.specs.declared.network.LinkCfg.{LinkCfg}
 use Rattle.wrp_base.specs.Division.{floor_quotient}
-use Rattle.wrp_base.specs.Network.{link_above}
+use Rattle.wrp_network.specs.Network.{link_above}
 use Rattle.wrp_base.proofs.DivisionLaws.{floor_quotient-at_most, floor_quotient-next}
 use Rattle.wrp_bounds.specs.Bounds.{numbers_of}
 use Rattle.wrp_bounds.specs.declared.numbers.HopNumbers.{HopNumbers}

@@ -1,8 +1,8 @@
 -- A world before its first event, with laws that fit its network, stands for that of the network's setting, and has the links' laws.
 use Rattle.std.proofs.Common.{◌≡◌, ◌∙◌, refl, ap, sym, subst, ℕ, ℤ, ◌<◌, List, length, Option, None, Some, IfSome, arith}
 use Rattle.std.specs.Prelude.{slice_get, option_and_then}
-use Rattle.wrp_base.specs.declared.network.LinkCfg.{LinkCfg}
-use Rattle.wrp_base.specs.Network.{IsTree, link_above, node_count}
+use Rattle.wrp_network.specs.declared.network.LinkCfg.{LinkCfg}
+use Rattle.wrp_network.specs.Network.{IsTree, link_above, node_count}
 use Rattle.wrp_base.proofs.Lists.{has_item}
 use Rattle.wrp_config.specs.declared.network.Network.{Network}
 use Rattle.wrp_law.specs.Law.{LawOf}

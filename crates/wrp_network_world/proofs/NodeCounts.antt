@@ -2,9 +2,9 @@
 use Rattle.std.proofs.Common.{◌≡◌, ◌∙◌, refl, ap, ap₂, sym, append_assoc, append-nil, ℕ, ℤ, suc, ◌+◌, ◌-◌, ◌==◌, ◌<◌, ◌≤◌, if◌then◌else◌, List, [], ◌++◌, flat_map, map, Some, arith}
 use Rattle.std.specs.Prelude.{slice_get}
 use Rattle.std.specs.List.{list_any}
-use Rattle.wrp_base.specs.Network.{name_at, node_count}
+use Rattle.wrp_network.specs.Network.{name_at, node_count}
 use Rattle.wrp_caldb.specs.Database.{Database}
-use Rattle.wrp_base.specs.declared.configuration.NetCfg.{NetCfg}
+use Rattle.wrp_network.specs.declared.configuration.NetCfg.{NetCfg}
 use Rattle.wrp_config.specs.Same.{bare_cfg}
 use Rattle.wrp_node.specs.NodeAt.{NodeSetting, NodeAt, Taken, numbers_of}
 use Rattle.wrp_node.specs.NodeRun.{node_after}

@@ -1,7 +1,7 @@
 -- The bounds of the nodes of a network in TRACK (this project's profile).
 use Rattle.std.specs.Prelude.{◌≡◌, ◌<◌, ◌^◌, ℤ, pos, List, length}
-use Rattle.wrp_base.specs.declared.configuration.NetCfg.{NetCfg}
-use Rattle.wrp_base.specs.Network.{node_count}
+use Rattle.wrp_network.specs.declared.configuration.NetCfg.{NetCfg}
+use Rattle.wrp_network.specs.Network.{node_count}
 use Rattle.wrp_bounds.specs.Bounds.{path_of}
 use Rattle.wrp_plant.specs.Plant.{Each}
 

@@ -1,6 +1,6 @@
 -- The delay laws of all nodes of a network (this project's profile).
 use Rattle.std.specs.Prelude.{◌≡◌, ℕ, ℤ, IfSome, List, Option, is_some, length}
-use Rattle.wrp_base.specs.Network.{link_above, node_count}
+use Rattle.wrp_network.specs.Network.{link_above, node_count}
 use Rattle.wrp_config.specs.declared.network.Network.{Network}
 use Rattle.wrp_law.specs.declared.link_law.LinkLaw.{LinkLaw}
 use Rattle.wrp_law.specs.Law.{LawOf}

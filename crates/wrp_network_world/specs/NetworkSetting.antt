@@ -1,7 +1,7 @@
 -- The setting of a network's world, and the delay laws of its links (this project's profile).
 use Rattle.std.specs.Prelude.{◌≡◌, ℕ, ℤ, Ok, List}
-use Rattle.wrp_base.specs.declared.configuration.NetCfg.{NetCfg}
-use Rattle.wrp_base.specs.Network.{link_above}
+use Rattle.wrp_network.specs.declared.configuration.NetCfg.{NetCfg}
+use Rattle.wrp_network.specs.Network.{link_above}
 use Rattle.wrp_caldb.specs.Database.{Database}
 use Rattle.wrp_config.specs.declared.network.Network.{Network}
 use Rattle.wrp_config.specs.Reading.{IsReadingOf}

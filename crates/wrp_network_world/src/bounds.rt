@@ -1,6 +1,6 @@
 //! The bounds of the nodes of a network in TRACK, worked out once.
 ghost use Rattle.std.specs.Prelude.{◌≡◌, IfOk};
-ghost use Rattle.wrp_base.specs.Network.{HasRanges, IsTree};
+ghost use Rattle.wrp_network.specs.Network.{HasRanges, IsTree};
 ghost use Rattle.wrp_network_world.specs.Bounds.{AreBounds};
 
 use crate::nodes::count_of;

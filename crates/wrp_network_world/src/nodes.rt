@@ -1,6 +1,6 @@
 //! The nodes of a network: how many, and their names.
 ghost use Rattle.std.specs.Prelude.{◌≡◌, ◌<◌};
-ghost use Rattle.wrp_base.specs.Network.{name_at, node_count};
+ghost use Rattle.wrp_network.specs.Network.{name_at, node_count};
 
 use wrp_config::Network;
 

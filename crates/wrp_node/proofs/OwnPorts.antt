@@ -3,9 +3,9 @@ use Rattle.std.proofs.Common.{◌≡◌, ◌≢◌, ◌∙◌, refl, ap, ap₂, 
 use Rattle.std.proofs.lemmas.Bool.{eqb-true, false_from_ne_true}
 use Rattle.std.proofs.lemmas.Map.Steps.{length-le_from_distinct_below}
 use Rattle.std.specs.List.{AllByRecursion, IsDistinct, list_any, filter, find, flat_map}
-use Rattle.wrp_base.specs.declared.configuration.NetCfg.{NetCfg}
-use Rattle.wrp_base.specs.declared.network.LinkCfg.{LinkCfg}
-use Rattle.wrp_base.specs.Network.{End, ends_of, HasLinkRanges, HasRanges, IsTree, NamesNoPortTwice, link_above}
+use Rattle.wrp_network.specs.declared.configuration.NetCfg.{NetCfg}
+use Rattle.wrp_network.specs.declared.network.LinkCfg.{LinkCfg}
+use Rattle.wrp_network.specs.Network.{End, ends_of, HasLinkRanges, HasRanges, IsTree, NamesNoPortTwice, link_above}
 use Rattle.wrp_base.proofs.Lists.{length_map}
 use Rattle.wrp_base.proofs.Naturals.{same_suc}
 use Rattle.wrp_data.specs.declared.datasets.PortDs.{PortDs}

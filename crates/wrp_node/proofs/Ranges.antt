@@ -2,8 +2,9 @@
 use Rattle.std.proofs.Common.{lit≤, ◌≡◌, ℕ, ℤ, pos, ◌<◌, ◌≤◌, ◌≤ℤ◌, ◌^◌, unsigned_abs, to_z, of_z, FitsSigned, ap, ◌∙◌, arith}
 use Rattle.std.proofs.lemmas.Int.{ints, to_z-of_z}
 use Rattle.std.specs.Int.{w64, w128}
-use Rattle.wrp_base.specs.declared.configuration.NetCfg.{NetCfg}
-use Rattle.wrp_base.specs.Network.{HasRanges, IsFromTo, NamesNoPortTwice}
+use Rattle.wrp_network.specs.declared.configuration.NetCfg.{NetCfg}
+use Rattle.wrp_network.specs.Network.{HasRanges, NamesNoPortTwice}
+use Rattle.wrp_base.specs.Ranges.{IsFromTo}
 use Rattle.wrp_node.specs.New.{FitsNodeSet}
 use Rattle.wrp_node.specs.Set.{set_of}
 use Rattle.wrp_node.proofs.OwnPorts.{different_numbers}

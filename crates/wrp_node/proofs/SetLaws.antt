@@ -1,9 +1,9 @@
 -- The port at an end of a link is among the ports of the node there, and has its number alone.
 use Rattle.std.proofs.Common.{◌≡◌, ap, subst, ℕ, zero, suc, ◌==◌, Bool, true, false, if◌then◌else◌, List, [], ◌∷◌, ◌++◌, Some, slice_get, arith}
 use Rattle.std.specs.List.{AllByRecursion, find, flat_map}
-use Rattle.wrp_base.specs.declared.configuration.NetCfg.{NetCfg}
-use Rattle.wrp_base.specs.declared.network.LinkCfg.{LinkCfg}
-use Rattle.wrp_base.specs.Network.{NamesNoPortTwice}
+use Rattle.wrp_network.specs.declared.configuration.NetCfg.{NetCfg}
+use Rattle.wrp_network.specs.declared.network.LinkCfg.{LinkCfg}
+use Rattle.wrp_network.specs.Network.{NamesNoPortTwice}
 use Rattle.wrp_base.proofs.Naturals.{eq_self}
 use Rattle.wrp_data.specs.declared.datasets.PortDs.{PortDs}
 use Rattle.wrp_node.specs.NodeAt.{port_or_none, port_of}

@@ -1,9 +1,9 @@
 -- The way up from a node: link by link, to the grandmaster.
 use Rattle.std.proofs.Common.{◌≡◌, ℕ, zero, suc, ◌+◌, ◌-◌, ◌<◌, ◌≤◌, refl, ap, sym, subst, ◌∙◌, Some, None, slice_get, arith}
 use Rattle.std.specs.Prelude.{◌==◌}
-use Rattle.wrp_base.specs.declared.configuration.NetCfg.{NetCfg}
-use Rattle.wrp_base.specs.declared.network.LinkCfg.{LinkCfg}
-use Rattle.wrp_base.specs.Network.{IsTree, IsGrandmaster, HasDepth, link_above, node_count}
+use Rattle.wrp_network.specs.declared.configuration.NetCfg.{NetCfg}
+use Rattle.wrp_network.specs.declared.network.LinkCfg.{LinkCfg}
+use Rattle.wrp_network.specs.Network.{IsTree, IsGrandmaster, HasDepth, link_above, node_count}
 use Rattle.wrp_base.proofs.Lists.{found_at}
 use Rattle.wrp_node.specs.Set.{steps_up, top_up}
 

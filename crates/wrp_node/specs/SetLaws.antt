@@ -1,8 +1,8 @@
 -- What the ports at the ends of a network's links are set to (this project's profile).
 use Rattle.std.specs.Prelude.{◌≡◌, ℕ}
-use Rattle.wrp_base.specs.declared.configuration.NetCfg.{NetCfg}
-use Rattle.wrp_base.specs.declared.network.LinkCfg.{LinkCfg}
-use Rattle.wrp_base.specs.Network.{IsLink, NamesNoPortTwice}
+use Rattle.wrp_network.specs.declared.configuration.NetCfg.{NetCfg}
+use Rattle.wrp_network.specs.declared.network.LinkCfg.{LinkCfg}
+use Rattle.wrp_network.specs.Network.{IsLink, NamesNoPortTwice}
 use Rattle.wrp_node.specs.NodeAt.{port_of}
 use Rattle.wrp_node.specs.Set.{master_at, slave_at, set_of}
 

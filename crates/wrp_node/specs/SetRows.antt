@@ -1,10 +1,10 @@
 -- A worked row of what nodes are set to: a grandmaster, a switch below it and a leaf below the switch, in a network each of whose numbers is another (this project's profile).
 use Rattle.std.specs.Prelude.{◌≡◌, ℕ, pos, Bool, true, false, List, [], ◌∷◌}
-use Rattle.wrp_base.specs.declared.configuration.NetCfg.{NetCfg}
+use Rattle.wrp_network.specs.declared.configuration.NetCfg.{NetCfg}
 use Rattle.wrp_base.specs.declared.link.Role.TheVariants.{Master, Slave}
 use Rattle.wrp_base.specs.declared.message.PortIdentity.{PortIdentity}
-use Rattle.wrp_base.specs.declared.network.LinkCfg.{LinkCfg}
-use Rattle.wrp_base.specs.declared.network.NodeCfg.{NodeCfg}
+use Rattle.wrp_network.specs.declared.network.LinkCfg.{LinkCfg}
+use Rattle.wrp_network.specs.declared.network.NodeCfg.{NodeCfg}
 use Rattle.wrp_base.specs.declared.time.Clock.TheVariants.{Mhz125}
 use Rattle.wrp_data.specs.declared.datasets.DefaultDs.{DefaultDs}
 use Rattle.wrp_data.specs.declared.datasets.PortDs.{PortDs}

@@ -2,15 +2,17 @@
 ghost use Rattle.std.specs.Prelude.{◌≡◌, ℕ, ◌+◌, ◌++◌, ◌<◌, ◌≤◌, length, unsigned_abs};
 ghost use Rattle.std.specs.List.{filter};
 ghost use Rattle.std.specs.Option.{is_some, option_map};
-ghost use Rattle.wrp_base.specs.Network as network;
-ghost use Rattle.wrp_base.specs.Network.{HasRanges, NamesNoPortTwice, IsTree, IsGrandmaster, HasDepth, IsFromTo, node_count};
+ghost use Rattle.wrp_network.specs.Network as network;
+ghost use Rattle.wrp_network.specs.Network.{HasRanges, NamesNoPortTwice, IsTree, IsGrandmaster, HasDepth, node_count};
+ghost use Rattle.wrp_base.specs.Ranges.{IsFromTo};
 ghost use Rattle.wrp_node.specs.New.{FitsNodeSet};
 ghost use Rattle.wrp_node.specs.NodeAt.{is_slave, slave_of};
 ghost use Rattle.wrp_node.specs.Set as spec;
 
 use crate::NodeSet;
 use arrayvec::ArrayVec;
-use wrp_base::{LinkCfg, NetCfg, PortIdentity, Role};
+use wrp_base::{PortIdentity, Role};
+use wrp_network::{LinkCfg, NetCfg};
 use wrp_data::{DefaultDs, PortDs};
 use wrp_link::LinkSet;
 use wrp_port::Sched;

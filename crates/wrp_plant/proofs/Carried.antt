@@ -4,7 +4,7 @@ use Rattle.std.specs.List.{flat_map}
 use Rattle.arrayvec.specs.ArrayVec.{ArrayVec}
 use Rattle.wrp_base.specs.declared.link.Role.{Role}
 use Rattle.wrp_base.specs.declared.link.Role.TheVariants.{Master}
-use Rattle.wrp_base.specs.Network.{HasRanges, NamesNoPortTwice}
+use Rattle.wrp_network.specs.Network.{HasRanges, NamesNoPortTwice}
 use Rattle.wrp_node.specs.declared.interface.Input.TheVariants.{Reset}
 use Rattle.wrp_node.specs.declared.interface.NodeSet.{NodeSet}
 use Rattle.wrp_node.specs.NodeAt.{numbers_of}

@@ -5,7 +5,8 @@ use Rattle.std.proofs.lemmas.List.Sums.{sum_by-cons}
 use Rattle.std.specs.Int.Signed.{le_z}
 use Rattle.std.specs.Option.{is_some}
 use Rattle.wrp_base.specs.declared.link.Role.{Role}
-use Rattle.wrp_base.specs.Network.{End, other_of}
+use Rattle.wrp_network.specs.Network.{End}
+use Rattle.wrp_base.specs.Link.{other_of}
 use Rattle.wrp_bounds.specs.Times.{frame_life}
 use Rattle.wrp_course.specs.declared.place.Place.{Place}
 use Rattle.wrp_flights.specs.declared.departed.Departed.{Departed}

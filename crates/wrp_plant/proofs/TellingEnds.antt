@@ -10,8 +10,8 @@ use Rattle.wrp_base.specs.declared.link.Role.{Role}
 use Rattle.wrp_base.specs.declared.link.Role.TheVariants.{Master, Slave}
 use Rattle.wrp_base.specs.declared.message.PtpMsg.{PtpMsg}
 use Rattle.wrp_base.specs.declared.message.WrMsg.{WrMsg}
-use Rattle.wrp_base.specs.declared.network.LinkCfg.{LinkCfg}
-use Rattle.wrp_base.specs.Network.{End}
+use Rattle.wrp_network.specs.declared.network.LinkCfg.{LinkCfg}
+use Rattle.wrp_network.specs.Network.{End}
 use Rattle.wrp_handshake.specs.Ends.{marked}
 use Rattle.wrp_link.specs.Table.{is_same}
 use Rattle.wrp_node.specs.declared.interface.Output.{Output}

@@ -2,8 +2,8 @@
 use Rattle.std.proofs.Common.{◌≡◌, ◌∙◌, refl, ap, ap₂, sym, subst, ℕ, ◌≤◌, ℤ, pos, ◌+◌, Bool, true, false, not, if◌then◌else◌, List, length, map, flat_map, Option, None, Some, IfSome, slice_get, arith}
 use Rattle.std.specs.Option.{is_some, option_map_or}
 use Rattle.wrp_base.specs.declared.link.ServoState.{ServoState}
-use Rattle.wrp_base.specs.declared.network.NodeCfg.{NodeCfg}
-use Rattle.wrp_base.specs.Network.{link_above}
+use Rattle.wrp_network.specs.declared.network.NodeCfg.{NodeCfg}
+use Rattle.wrp_network.specs.Network.{link_above}
 use Rattle.wrp_servo.specs.Sampling.{is_holdover}
 use Rattle.wrp_node.specs.NodeAt.{locked_of, state_of}
 use Rattle.wrp_course.specs.Checks.{told_of}

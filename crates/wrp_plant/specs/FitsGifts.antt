@@ -1,7 +1,7 @@
 -- Which inputs a node of a network can take, as far as its count of ticks is not asked (this project's profile).
 use Rattle.std.specs.Prelude.{ℕ, ◌≡◌, ◌<◌, true}
-use Rattle.wrp_base.specs.declared.configuration.NetCfg.{NetCfg}
-use Rattle.wrp_base.specs.Network.{node_count}
+use Rattle.wrp_network.specs.declared.configuration.NetCfg.{NetCfg}
+use Rattle.wrp_network.specs.Network.{node_count}
 use Rattle.wrp_node.specs.declared.interface.Input.{Input}
 use Rattle.wrp_node.specs.declared.interface.Input.TheVariants.{Tick, Sample, Frame, Sent, Carrier, Reset}
 use Rattle.wrp_node.specs.Parts.{FitsRaw}

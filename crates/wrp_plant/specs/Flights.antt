@@ -2,7 +2,7 @@
 use Rattle.std.specs.Prelude.{◌≡◌, ◌≤◌, ◌+ℤ◌, ℤ, List, [], ◌∷◌, Option, None, Some, false, drop, vec_len, vec_capacity}
 use Rattle.wrp_base.specs.declared.link.Role.{Role}
 use Rattle.wrp_base.specs.declared.link.Role.TheVariants.{Master, Slave}
-use Rattle.wrp_base.specs.Network.{other_of}
+use Rattle.wrp_base.specs.Link.{other_of}
 use Rattle.wrp_plant.specs.declared.ends.EndState.{EndState}
 use Rattle.wrp_plant.specs.declared.ends.PutOut.{PutOut}
 use Rattle.wrp_plant.specs.declared.ends.Span.{Span}

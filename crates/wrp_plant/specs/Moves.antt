@@ -1,7 +1,7 @@
 -- What an event does to the parts of a plant as the code keeps them (this project's profile).
 use Rattle.std.specs.Prelude.{◌≡◌, ◌+◌, ◌==◌, ◌||◌, ◌≤◌, ◌+ℤ◌, ◌^◌, ℕ, ℤ, Bool, true, false, unsigned_abs, List, [], length, Option, None, Some, option_map, slice_get, vec_len, vec_capacity}
 use Rattle.wrp_base.specs.declared.link.Role.TheVariants.{Master, Slave}
-use Rattle.wrp_base.specs.declared.network.LinkCfg.{LinkCfg}
+use Rattle.wrp_network.specs.declared.network.LinkCfg.{LinkCfg}
 use Rattle.wrp_course.specs.declared.clocks.ClockState.{ClockState}
 use Rattle.wrp_plant.specs.declared.ends.EndState.{EndState}
 use Rattle.wrp_plant.specs.declared.ends.Span.{Span}

@@ -1,11 +1,12 @@
 //! What a premise compares, and what is told of the first comparison that fails.
 ghost use Rattle.std.specs.Prelude.{◌≡◌, ℕ, ◌^◌, ◌≤◌, ◌*◌, pos, unsigned_abs, [], ◌∷◌, false, true};
-ghost use Rattle.wrp_base.specs.Network.{HasRanges};
+ghost use Rattle.wrp_network.specs.Network.{HasRanges};
 ghost use Rattle.wrp_bounds.specs.Times as times;
 ghost use Rattle.wrp_course.specs.Checks.{told_of};
 ghost use Rattle.wrp_course.specs.Checks as spec;
 
-use wrp_base::{NetCfg, Tau};
+use wrp_base::Tau;
+use wrp_network::NetCfg;
 use wrp_course::Breach;
 
 /// One ns, in tau.

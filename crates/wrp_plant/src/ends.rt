@@ -6,7 +6,8 @@ ghost use Rattle.wrp_plant.specs.Tried.{delays_in};
 ghost use Rattle.wrp_course.specs.Views.{oldest_of};
 ghost use Rattle.wrp_course.specs.WorldAt.{EndAt};
 
-use wrp_base::{Frame, Mark, Name, Role, Tau, sum};
+use wrp_base::{Frame, Mark, Role, Tau, sum};
+use wrp_network::Name;
 use wrp_course::FibreState;
 
 /// A frame that a port put out, and that has not departed.

@@ -5,9 +5,9 @@ use Rattle.std.specs.Option.{option_map_or}
 use Rattle.std.proofs.lemmas.Bool.{false_from_ne_true}
 use Rattle.std.proofs.lemmas.Bool.Decides.{eqb_tells}
 use Rattle.std.proofs.lemmas.Option.{same_Some}
-use Rattle.wrp_base.specs.declared.configuration.NetCfg.{NetCfg}
-use Rattle.wrp_base.specs.declared.network.NodeCfg.{NodeCfg}
-use Rattle.wrp_base.specs.Network.{IsNode, name_at, node_count}
+use Rattle.wrp_network.specs.declared.configuration.NetCfg.{NetCfg}
+use Rattle.wrp_network.specs.declared.network.NodeCfg.{NodeCfg}
+use Rattle.wrp_network.specs.Network.{IsNode, name_at, node_count}
 use Rattle.wrp_base.proofs.Lists.{has_item}
 use Rattle.wrp_caldb.specs.Name.{is_name, same_name}
 use Rattle.wrp_config.specs.Accepted.{HasNames}

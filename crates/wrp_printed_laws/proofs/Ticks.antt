@@ -4,7 +4,7 @@ use Rattle.std.specs.Prelude.{is_some}
 use Rattle.std.specs.Fmt.{decimal}
 use Rattle.std.specs.List.{AllByRecursion}
 use Rattle.wrp_base.specs.Lines.{parts_of}
-use Rattle.wrp_base.specs.Network.{name_at, node_count}
+use Rattle.wrp_network.specs.Network.{name_at, node_count}
 use Rattle.wrp_base.proofs.Lists.{all_append}
 use Rattle.wrp_bounds.specs.Bounds.{path_of}
 use Rattle.wrp_config.specs.Accepted.{HasNames}

@@ -2,9 +2,9 @@
 use Rattle.std.proofs.Common.{◌≡◌, ◌∙◌, inl, inr, refl, ap, ap₂, sym, subst, append-nil, ℕ, ◌<◌, ◌≤◌, ◌^◌, ◌==◌, Some, Ok, List, [], ◌∷◌, ◌++◌, map, reverse, length, arith}
 use Rattle.std.specs.List.{AllByRecursion}
 use Rattle.std.proofs.lemmas.List.{length-map, length-reverse, reverse-reverse}
-use Rattle.wrp_base.specs.declared.configuration.NetCfg.{NetCfg}
-use Rattle.wrp_base.specs.declared.network.NodeCfg.{NodeCfg}
-use Rattle.wrp_base.specs.Network.{name_at, node_count}
+use Rattle.wrp_network.specs.declared.configuration.NetCfg.{NetCfg}
+use Rattle.wrp_network.specs.declared.network.NodeCfg.{NodeCfg}
+use Rattle.wrp_network.specs.Network.{name_at, node_count}
 use Rattle.wrp_caldb.specs.Database.{Database}
 use Rattle.wrp_caldb.specs.Name.{same_name}
 use Rattle.wrp_config.proofs.Lists.{found_place}

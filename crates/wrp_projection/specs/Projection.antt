@@ -2,8 +2,8 @@
 -- offset, which a replay does not know (this project's profile).
 use Rattle.std.specs.Prelude.{◌≡◌, ◌==◌, ℕ, ℤ, Bool, false, None, Some, List, [], ◌∷◌, ◌++◌, take}
 use Rattle.std.specs.List.{filter, flat_map, join_with_byte, slice_split}
-use Rattle.wrp_base.specs.declared.configuration.NetCfg.{NetCfg}
-use Rattle.wrp_base.specs.Network.{node_count}
+use Rattle.wrp_network.specs.declared.configuration.NetCfg.{NetCfg}
+use Rattle.wrp_network.specs.Network.{node_count}
 use Rattle.wrp_caldb.specs.Name.{same_name}
 use Rattle.wrp_config.specs.Names.{node_named}
 use Rattle.wrp_lines.specs.Lines.{output_line}

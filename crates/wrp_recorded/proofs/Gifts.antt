@@ -7,7 +7,8 @@ use Rattle.wrp_base.specs.declared.link.Role.TheVariants.{Master}
 use Rattle.wrp_base.specs.declared.message.Body.{Body}
 use Rattle.wrp_base.specs.declared.message.Body.TheVariants.{Sync, DelayReq, FollowUp, DelayResp, Announce, Signal}
 use Rattle.wrp_base.specs.declared.message.PtpMsg.{PtpMsg}
-use Rattle.wrp_base.specs.Network.{End, other_of}
+use Rattle.wrp_network.specs.Network.{End}
+use Rattle.wrp_base.specs.Link.{other_of}
 use Rattle.wrp_base.proofs.Naturals.{below_word}
 use Rattle.wrp_config.specs.Accepted.{IsAccepted}
 use Rattle.wrp_config.specs.Laws.{PortIsOfOneLink}

@@ -1,10 +1,10 @@
 -- The law of a link of an accepted network.
 use Rattle.std.proofs.Common.{◌≡◌, refl, ap, subst, ℕ, ℤ, ◌==◌, ◌≤◌, ◌^◌, unsigned_abs, List, Option, None, Some, IfSome, option_map, Bor}
 use Rattle.std.specs.Prelude.{option_and_then}
-use Rattle.wrp_base.specs.declared.configuration.NetCfg.{NetCfg}
+use Rattle.wrp_network.specs.declared.configuration.NetCfg.{NetCfg}
 use Rattle.wrp_base.specs.declared.link.Fibre.{Fibre}
-use Rattle.wrp_base.specs.declared.network.LinkCfg.{LinkCfg}
-use Rattle.wrp_base.specs.Network.{IsLink, link_above}
+use Rattle.wrp_network.specs.declared.network.LinkCfg.{LinkCfg}
+use Rattle.wrp_network.specs.Network.{IsLink, link_above}
 use Rattle.wrp_base.proofs.Lists.{found_at}
 use Rattle.wrp_caldb.specs.Database.{Database, FibreAt, TableAt, fibre_at, fibre_named, table_at}
 use Rattle.wrp_config.specs.Accepted.{IsAccepted, IsSoundFibre, IsSoundTable}

@@ -2,7 +2,7 @@
 use Rattle.std.proofs.Common.{◌≡◌, ◌∙◌, refl, ap, ap₂, sym, ℕ, ℤ, if◌then◌else◌, Result, Ok, Err, List, [], ◌∷◌, ◌++◌, ◌+◌, length, map, reverse}
 use Rattle.std.proofs.lemmas.List.{map-append, reverse-append, reverse-reverse}
 use Rattle.wrp_base.specs.declared.fault.TraceFault.{TraceFault}
-use Rattle.wrp_base.specs.Network.{name_at}
+use Rattle.wrp_network.specs.Network.{name_at}
 use Rattle.wrp_node.specs.declared.interface.Input.{Input}
 use Rattle.wrp_node.specs.declared.interface.Output.{Output}
 use Rattle.wrp_node.specs.NodeAt.{Taken, NodeAt}

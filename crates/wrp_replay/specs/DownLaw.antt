@@ -1,8 +1,8 @@
 -- The delay law of the link above a node: what it answers, and from where to where it may be asked
 -- (this project's profile).
 use Rattle.std.specs.Prelude.{ℤ, pos, neg_ℤ, ◌^◌, ◌≡◌, ◌≤ℤ◌, Option, None, Some, is_some, IfSome}
-use Rattle.wrp_base.specs.declared.network.LinkCfg.{LinkCfg}
-use Rattle.wrp_base.specs.Network.{link_above}
+use Rattle.wrp_network.specs.declared.network.LinkCfg.{LinkCfg}
+use Rattle.wrp_network.specs.Network.{link_above}
 use Rattle.wrp_caldb.specs.Database.{Database, TableAt, table_at}
 use Rattle.wrp_law.specs.Law.{LawOf, KeepsFact, floor_at}
 use Rattle.wrp_law.specs.Table.{first_x, last_x, table_value}

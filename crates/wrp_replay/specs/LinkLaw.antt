@@ -1,6 +1,6 @@
 -- The description from which the law of a link is made (this project's profile).
 use Rattle.std.specs.Prelude.{◌≡◌, ℕ, ℤ, pos, Option, None, Some}
-use Rattle.wrp_base.specs.declared.network.LinkCfg.{LinkCfg}
+use Rattle.wrp_network.specs.declared.network.LinkCfg.{LinkCfg}
 use Rattle.wrp_caldb.specs.Database.{Database, table_at}
 use Rattle.wrp_config.specs.Accepted.{law_error}
 use Rattle.wrp_law.specs.declared.delay.LawKind.{LawKind}

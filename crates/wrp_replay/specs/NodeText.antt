@@ -2,7 +2,7 @@
 -- (this project's profile).
 use Rattle.std.specs.Prelude.{◌≡◌, ◌==◌, ℕ, if◌then◌else◌, None, List, [], ◌∷◌, ◌++◌}
 use Rattle.std.specs.List.{flat_map}
-use Rattle.wrp_base.specs.Network.{name_at}
+use Rattle.wrp_network.specs.Network.{name_at}
 use Rattle.wrp_data.specs.Counters.{count_at}
 use Rattle.wrp_data.specs.Reason.{number_of, reasons}
 use Rattle.wrp_lines.specs.Lines.{output_line, count_line_of}

@@ -1,6 +1,6 @@
 -- What a replayed node stands for: the lines that it has taken (this project's profile).
 use Rattle.std.specs.Prelude.{◌≡◌, ℕ, ℤ, pos, true, IfSome, List, ◌∷◌}
-use Rattle.wrp_base.specs.Network.{name_at}
+use Rattle.wrp_network.specs.Network.{name_at}
 use Rattle.wrp_bounds.specs.Bounds.{path_of}
 use Rattle.wrp_config.specs.Same.{bare_cfg}
 use Rattle.wrp_node.specs.Control.{law_in}

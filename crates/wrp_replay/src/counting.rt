@@ -1,6 +1,6 @@
 //! The lines that close a node's records: its counters that are not 0, by port and reason.
 ghost use Rattle.std.specs.Prelude.{◌≡◌, ◌≤◌, ◌++◌, List, IfOk, true};
-ghost use Rattle.wrp_base.specs.Network.{name_at};
+ghost use Rattle.wrp_network.specs.Network.{name_at};
 ghost use Rattle.wrp_node.specs.NodeAt.{NodeSetting, Taken};
 ghost use Rattle.wrp_node.specs.NodeRun.{node_after};
 ghost use Rattle.wrp_node.specs.Parts.{is_among};

@@ -1,12 +1,12 @@
 //! The delay law of the link above a node, as the network and its database tell it.
 ghost use Rattle.std.specs.Prelude.{◌≡◌, if◌then◌else◌, None, Some, IfSome, is_some};
-ghost use Rattle.wrp_base.specs.Network as network;
+ghost use Rattle.wrp_network.specs.Network as network;
 ghost use Rattle.wrp_config.specs.Accepted.{IsAccepted};
 ghost use Rattle.wrp_law.specs.LinkLaw.{IsSound};
 ghost use Rattle.wrp_replay.specs.LinkLaw.{IsLawOver};
 
 use crate::replayed::Replayed;
-use wrp_base::LinkCfg;
+use wrp_network::LinkCfg;
 use wrp_config::link_above;
 use wrp_law::{DelayLaw, LinkLaw};
 

@@ -1,7 +1,7 @@
 //! The replay of one node's recorded inputs.
 ghost use Rattle.std.specs.Prelude.{pos, ◌≡◌, ◌<◌, ◌≤◌, ◌+◌, ◌++◌, [], ◌^◌, List, None, IfOk, OnOk};
 ghost use Rattle.std.specs.List.{flat_map};
-ghost use Rattle.wrp_base.specs.Network.{name_at, node_count};
+ghost use Rattle.wrp_network.specs.Network.{name_at, node_count};
 ghost use Rattle.wrp_bounds.specs.Bounds.{path_of};
 ghost use Rattle.wrp_config.specs.Accepted.{IsAccepted};
 ghost use Rattle.wrp_lines.specs.Lines.{output_line_of};

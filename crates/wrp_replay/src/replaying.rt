@@ -1,7 +1,7 @@
 //! The replay of a node over the records that a reader gives.
 ghost use Rattle.std.specs.Prelude.{◌≡◌, ◌≤ℤ◌, ◌<◌, [], true, is_some};
 ghost use Rattle.std.specs.Io.KnownBytes.{IsAtEnd};
-ghost use Rattle.wrp_base.specs.Network.{link_above, node_count};
+ghost use Rattle.wrp_network.specs.Network.{link_above, node_count};
 ghost use Rattle.wrp_config.specs.Accepted.{IsAccepted};
 ghost use Rattle.wrp_law.specs.Law.{IsNear, KeepsFact};
 ghost use Rattle.wrp_law.specs.LinkLaw.{IsSound, down_of, error_of, kind_of, least_of, most_of};

@@ -3,8 +3,9 @@ use Rattle.std.proofs.Common.{ℕ, ℤ, ◌^◌, ◌≤◌, List, [], ◌∷◌,
 use Rattle.std.specs.Prelude.{slice_get, unsigned_abs, unwrap_or}
 use Rattle.std.specs.List.{AllByRecursion}
 use Rattle.std.proofs.lemmas.Int.{ints}
-use Rattle.wrp_base.specs.declared.configuration.NetCfg.{NetCfg}
-use Rattle.wrp_base.specs.Network.{HasRanges, IsFromTo}
+use Rattle.wrp_network.specs.declared.configuration.NetCfg.{NetCfg}
+use Rattle.wrp_network.specs.Network.{HasRanges}
+use Rattle.wrp_base.specs.Ranges.{IsFromTo}
 use Rattle.wrp_scene.specs.Scenario.{SceneAt, IsSceneOf, IsSum, delta_ms, delta_sm, fibre_room, sum_of}
 use Rattle.wrp_scene.proofs.FibreSplit.{split}
 

@@ -4,8 +4,9 @@ use Rattle.std.specs.Prelude.{is_none, slice_get, slice_set, unwrap_or}
 use Rattle.std.specs.List.{AllByRecursion}
 use Rattle.std.proofs.lemmas.Int.{ints}
 use Rattle.std.proofs.lemmas.List.{length-set, length-map}
-use Rattle.wrp_base.specs.declared.configuration.NetCfg.{NetCfg}
-use Rattle.wrp_base.specs.Network.{IsAmong, IsGrandmaster, link_above}
+use Rattle.wrp_network.specs.declared.configuration.NetCfg.{NetCfg}
+use Rattle.wrp_network.specs.Network.{IsGrandmaster, link_above}
+use Rattle.wrp_base.specs.Ranges.{IsAmong}
 use Rattle.wrp_scene.specs.declared.scene.fault.Fault.{Fault}
 use Rattle.wrp_scene.specs.Scenario.{SceneAt, IsFault, IsFree, IsOffset, IsSceneOf, IsSum, new_scene, tau_of_ms}
 

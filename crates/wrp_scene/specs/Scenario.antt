@@ -3,8 +3,9 @@
 use Rattle.std.specs.Prelude.{ℕ, ℤ, pos, ◌*◌, ◌+◌, ◌-◌, ◌≤◌, ◌<◌, ◌≡◌, ◌*ℤ◌, ◌-ℤ◌, unsigned_abs, List, [], map, length, slice_get, unwrap_or}
 use Rattle.std.specs.List.{AllByRecursion}
 use Rattle.std.specs.Option.{option_map_or}
-use Rattle.wrp_base.specs.declared.configuration.NetCfg.{NetCfg}
-use Rattle.wrp_base.specs.Network.{IsFromTo, IsGrandmaster, node_count}
+use Rattle.wrp_network.specs.declared.configuration.NetCfg.{NetCfg}
+use Rattle.wrp_network.specs.Network.{IsGrandmaster, node_count}
+use Rattle.wrp_base.specs.Ranges.{IsFromTo}
 use Rattle.wrp_bounds.specs.Times.{reach}
 use Rattle.wrp_law.specs.Law.{floor_at}
 use Rattle.wrp_course.specs.EventAt.{link_count}

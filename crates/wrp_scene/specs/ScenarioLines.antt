@@ -2,11 +2,11 @@
 -- The kind is tried first, then the number of fields, then the fields from left to right. Of the lines of one kind that
 -- speak of the same the last counts, but each fault is one more.
 use Rattle.std.specs.Prelude.{ℕ, ℤ, pos, negsuc, ◌*◌, ◌/◌, ◌==◌, nat_lt, is_none, if◌then◌else◌, Option, None, Some, Result, Ok, Err, List, [], ◌∷◌, ◌++◌, length, slice_set, codes}
-use Rattle.wrp_base.specs.declared.configuration.NetCfg.{NetCfg}
+use Rattle.wrp_network.specs.declared.configuration.NetCfg.{NetCfg}
 use Rattle.wrp_base.specs.declared.fault.TraceFault.{TraceFault}
 use Rattle.wrp_base.specs.declared.fault.TraceFault.TheVariants.{Fields, Kind, Name}
 use Rattle.wrp_base.specs.Lines.{parts_of}
-use Rattle.wrp_base.specs.Network.{link_above}
+use Rattle.wrp_network.specs.Network.{link_above}
 use Rattle.wrp_caldb.specs.Name.{same_name}
 use Rattle.wrp_fields.specs.Fields.{number_at}
 use Rattle.wrp_names.specs.Fields.{node_at, link_at}

@@ -1,7 +1,7 @@
 //! Scenarios: for how long a network runs, with which fibres, clocks, losses and faults.
 ghost use Rattle.std.specs.Prelude.{◌≡◌, ◌<◌, ◌≤◌, IsErr, length, map, pos, slice_set};
 ghost use Rattle.csv.specs.Records.{fields_of};
-ghost use Rattle.wrp_base.specs.Network.{HasRanges};
+ghost use Rattle.wrp_network.specs.Network.{HasRanges};
 ghost use Rattle.wrp_fields.specs.Reading.{IsReading};
 ghost use Rattle.wrp_scene.specs.Scenario.{SceneAt, IsSceneOf, new_scene};
 ghost use Rattle.wrp_scene.specs.ScenarioLines.{length_line, fibre_line, offset_line, free_line, loss_line, repeat_line, fault_line, line_of_kind, scene_of, scene_read, outcome};
@@ -21,7 +21,8 @@ pub use kinds::SceneKind;
 use kinds::kind_of;
 use std::alloc::Global;
 use std::marker::Model;
-use wrp_base::{LinkCfg, NetCfg, NodeCfg, Tau, TraceFault};
+use wrp_base::{Tau, TraceFault};
+use wrp_network::{LinkCfg, NetCfg, NodeCfg};
 use wrp_config::Network;
 use wrp_fields::{field, is_plain, split};
 use wrp_names::{link_at, node_at};

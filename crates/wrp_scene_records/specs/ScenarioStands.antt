@@ -1,6 +1,6 @@
 -- What the reader of a scenario's lines stands for, and how a run by a scenario ends (this project's profile).
 use Rattle.std.specs.Prelude.{◌≡◌, ◌⊎◌, ℕ, Option, List, ◌++◌}
-use Rattle.wrp_base.specs.Network.{HasRanges}
+use Rattle.wrp_network.specs.Network.{HasRanges}
 use Rattle.wrp_scene.specs.EventLimit.{event_limit}
 use Rattle.wrp_scene.specs.Scenario.{IsSceneOf}
 use Rattle.wrp_records.specs.declared.status.Status.{Status}

@@ -1,6 +1,6 @@
 -- What record lines mean that say a scenario (this project's profile).
 use Rattle.std.specs.Prelude.{◌≡◌, ℕ, ◌+◌, Ok, Err, List, [], ◌∷◌, length}
-use Rattle.wrp_base.specs.declared.configuration.NetCfg.{NetCfg}
+use Rattle.wrp_network.specs.declared.configuration.NetCfg.{NetCfg}
 use Rattle.wrp_base.specs.declared.fault.TraceFault.{TraceFault}
 use Rattle.wrp_scene.specs.Scenario.{SceneAt, new_scene}
 use Rattle.wrp_scene.specs.ScenarioLines.{scene_read}

@@ -1,7 +1,7 @@
 //! The scenario that record lines say.
 ghost use Rattle.std.specs.Prelude.{◌≡◌, ◌+◌, ◌++◌, ◌∷◌, [], ℕ, List, IfOk, length};
 ghost use Rattle.wrp_base.specs.Lines.{parts_of};
-ghost use Rattle.wrp_base.specs.Network.{HasRanges};
+ghost use Rattle.wrp_network.specs.Network.{HasRanges};
 ghost use Rattle.wrp_scene.specs.Scenario.{IsSceneOf};
 ghost use Rattle.wrp_scene.specs.ScenarioLines.{outcome, scene_read};
 ghost use Rattle.wrp_scene_records.specs.ScenarioStands.{CanRead, SaysScenario};

@@ -5,7 +5,7 @@ use Rattle.std.proofs.lemmas.Option.{none-some, same_Some}
 use Rattle.std.specs.List.{AllByRecursion}
 use Rattle.wrp_base.specs.Clock.{period_of}
 use Rattle.wrp_base.specs.declared.link.Role.{Role}
-use Rattle.wrp_base.specs.Network.{End}
+use Rattle.wrp_network.specs.Network.{End}
 use Rattle.wrp_base.specs.declared.time.Clock.{Clock}
 use Rattle.wrp_base.specs.declared.time.Clock.TheVariants.{Mhz125, Mhz62}
 use Rattle.wrp_base.specs.declared.time.Raw.{Raw}

@@ -6,7 +6,7 @@ use Rattle.wrp_base.specs.declared.time.Raw.{Raw}
 use Rattle.wrp_course.specs.declared.event.Event.{Event}
 use Rattle.wrp_course.specs.declared.event.Event.TheVariants.{Pass, Tick, Sample, Depart, Arrive, Deliver, Noise, Down, Up, Cut, Join}
 use Rattle.wrp_course.specs.EventAt.{link_count}
-use Rattle.wrp_base.specs.Network.{node_count}
+use Rattle.wrp_network.specs.Network.{node_count}
 use Rattle.wrp_course.specs.Setting.{Setting, above, link_of, nodes_of}
 use Rattle.wrp_course.specs.WorldAt.{WorldAt, has_carrier}
 use Rattle.wrp_plant.specs.Plant.{Each}

@@ -3,7 +3,8 @@ use Rattle.std.proofs.Common.{◌≡◌, refl, sym, subst, ℕ, zero, suc, ◌+�
 use Rattle.std.proofs.lemmas.Int.{ints}
 use Rattle.std.specs.Option.{option_map_or}
 use Rattle.wrp_base.specs.Held.{held_within}
-use Rattle.wrp_base.specs.Network.{IsFromTo, node_count}
+use Rattle.wrp_network.specs.Network.{node_count}
+use Rattle.wrp_base.specs.Ranges.{IsFromTo}
 use Rattle.wrp_node.specs.declared.interface.NodeSet.{NodeSet}
 use Rattle.wrp_node.specs.NodeAt.{dac_of}
 use Rattle.wrp_course.specs.Checks.{AllHold}

@@ -4,12 +4,13 @@ use Rattle.std.proofs.lemmas.Int.{ints}
 use Rattle.std.specs.Option.{option_and_then, option_map_or}
 use Rattle.std.proofs.lemmas.Bool.{cases_Bool}
 use Rattle.wrp_base.specs.Clock.{steps_of_period}
-use Rattle.wrp_base.specs.declared.configuration.NetCfg.{NetCfg}
+use Rattle.wrp_network.specs.declared.configuration.NetCfg.{NetCfg}
 use Rattle.wrp_base.specs.declared.link.Module.{Module}
 use Rattle.wrp_base.specs.declared.link.Role.{Role}
 use Rattle.wrp_base.specs.declared.link.Role.TheVariants.{Master, Slave}
-use Rattle.wrp_base.specs.declared.network.LinkCfg.{LinkCfg}
-use Rattle.wrp_base.specs.Network.{HasLinkRanges, other_of}
+use Rattle.wrp_network.specs.declared.network.LinkCfg.{LinkCfg}
+use Rattle.wrp_network.specs.Network.{HasLinkRanges}
+use Rattle.wrp_base.specs.Link.{other_of}
 use Rattle.wrp_bounds.specs.Times.{reach}
 use Rattle.wrp_caldb.specs.Database.{module_at}
 use Rattle.wrp_course.specs.declared.fibres.FibreState.{FibreState}

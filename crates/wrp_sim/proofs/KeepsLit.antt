@@ -4,7 +4,7 @@ use Rattle.std.specs.Option.{is_some}
 use Rattle.std.proofs.lemmas.Bool.{not-false}
 use Rattle.wrp_base.specs.declared.message.PtpMsg.{PtpMsg}
 use Rattle.wrp_base.specs.declared.time.Raw.{Raw}
-use Rattle.wrp_base.specs.Network.{End}
+use Rattle.wrp_network.specs.Network.{End}
 use Rattle.wrp_base.proofs.Booleans.{not_both}
 use Rattle.wrp_frame.specs.declared.fault.FrameFault.{FrameFault}
 use Rattle.wrp_node.specs.NodeAt.{link_at}

@@ -1,6 +1,6 @@
 -- What follows the rules takes turns with its world, and each event that it gives is accepted.
 use Rattle.std.proofs.Common.{◌≡◌, refl, ap, sym, subst, ℕ, ℤ, List, ◌∷◌, Option, None, Some, Result, Err}
-use Rattle.wrp_base.specs.declared.configuration.NetCfg.{NetCfg}
+use Rattle.wrp_network.specs.declared.configuration.NetCfg.{NetCfg}
 use Rattle.wrp_base.specs.declared.message.PtpMsg.{PtpMsg}
 use Rattle.wrp_frame.specs.declared.fault.FrameFault.{FrameFault}
 use Rattle.wrp_frame.specs.declared.fault.FrameFault.TheVariants.{Short}

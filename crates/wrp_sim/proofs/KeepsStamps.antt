@@ -8,7 +8,7 @@ use Rattle.wrp_base.specs.Clock.{period_of, step_of}
 use Rattle.wrp_base.specs.declared.time.Clock.{Clock}
 use Rattle.wrp_base.specs.declared.time.Clock.TheVariants.{Mhz125, Mhz62}
 use Rattle.wrp_base.specs.Division.{floor_quotient}
-use Rattle.wrp_base.specs.Network.{IsAmong}
+use Rattle.wrp_base.specs.Ranges.{IsAmong}
 use Rattle.wrp_base.proofs.Integers.{le_plus, pos_le, pos_of_abs}
 use Rattle.wrp_stamp.specs.Merge.{place_of as place_in_period}
 use Rattle.wrp_stamp.specs.StampBound.{true_place}

@@ -7,8 +7,8 @@ use Rattle.std.specs.Option.{is_some, option_and_then}
 use Rattle.std.proofs.lemmas.Bool.{and_parts, not-true, not_from_false}
 use Rattle.std.proofs.lemmas.Option.{none-some}
 use Rattle.wrp_base.specs.declared.message.PtpMsg.{PtpMsg}
-use Rattle.wrp_base.specs.declared.network.LinkCfg.{LinkCfg}
-use Rattle.wrp_base.specs.Network.{link_above, node_count}
+use Rattle.wrp_network.specs.declared.network.LinkCfg.{LinkCfg}
+use Rattle.wrp_network.specs.Network.{link_above, node_count}
 use Rattle.wrp_base.proofs.Booleans.{not_both}
 use Rattle.wrp_base.proofs.Lists.{has_item}
 use Rattle.wrp_base.proofs.Naturals.{le_one_more, nat_le_self}

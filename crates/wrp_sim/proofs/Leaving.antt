@@ -3,7 +3,7 @@ use Rattle.std.proofs.Common.{◌≡◌, ◌∙◌, refl, ap, ap₂, sym, subst,
 use Rattle.std.proofs.lemmas.Option.{none-some, same_Some}
 use Rattle.wrp_base.specs.Clock.{period_of}
 use Rattle.wrp_base.specs.declared.link.Role.{Role}
-use Rattle.wrp_base.specs.declared.network.LinkCfg.{LinkCfg}
+use Rattle.wrp_network.specs.declared.network.LinkCfg.{LinkCfg}
 use Rattle.wrp_base.specs.declared.time.Clock.{Clock}
 use Rattle.wrp_base.specs.declared.time.Clock.TheVariants.{Mhz125, Mhz62}
 use Rattle.wrp_course.specs.declared.event.Event.TheVariants.{Depart}

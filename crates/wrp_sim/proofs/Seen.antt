@@ -1,8 +1,8 @@
 -- What is asked of a world: sizes, and what is read of its nodes and links.
 use Rattle.std.proofs.Common.{◌≡◌, ◌∙◌, ap, sym, ℕ, ℤ, length, Some, slice_get}
-use Rattle.wrp_base.specs.declared.configuration.NetCfg.{NetCfg}
-use Rattle.wrp_base.specs.declared.network.LinkCfg.{LinkCfg}
-use Rattle.wrp_base.specs.declared.network.NodeCfg.{NodeCfg}
+use Rattle.wrp_network.specs.declared.configuration.NetCfg.{NetCfg}
+use Rattle.wrp_network.specs.declared.network.LinkCfg.{LinkCfg}
+use Rattle.wrp_network.specs.declared.network.NodeCfg.{NodeCfg}
 use Rattle.wrp_course.specs.Setting.{Setting, from_on, link_of, nodes_of}
 use Rattle.wrp_world.specs.StandsFor.{IsValid, StandsFor, WorldOf}
 use Rattle.wrp_course.specs.WorldAt.{WorldAt}

@@ -2,7 +2,7 @@
 use Rattle.std.specs.Prelude.{◌≤◌, ◌≤ℤ◌, ◌^◌, ◌+◌, ◌*◌, ℕ, ℤ, pos, nat_lt, if◌then◌else◌, Option, None, Some, option_and_then, unsigned_abs}
 use Rattle.wrp_base.specs.declared.link.Role.{Role}
 use Rattle.wrp_base.specs.declared.link.Role.TheVariants.{Master, Slave}
-use Rattle.wrp_base.specs.Network.{End}
+use Rattle.wrp_network.specs.Network.{End}
 use Rattle.wrp_course.specs.declared.event.Event.{Event}
 use Rattle.wrp_course.specs.declared.event.Event.TheVariants.{Depart}
 use Rattle.wrp_course.specs.Setting.{Setting, end_at}

@@ -7,9 +7,10 @@ use Rattle.std.specs.Ordering.{int_eq}
 use Rattle.wrp_base.specs.declared.link.Module.{Module}
 use Rattle.wrp_base.specs.declared.link.Role.{Role}
 use Rattle.wrp_base.specs.declared.link.Role.TheVariants.{Master, Slave}
-use Rattle.wrp_base.specs.declared.network.LinkCfg.{LinkCfg}
+use Rattle.wrp_network.specs.declared.network.LinkCfg.{LinkCfg}
 use Rattle.wrp_base.specs.declared.time.Raw.{Raw}
-use Rattle.wrp_base.specs.Network.{End, node_count, other_of}
+use Rattle.wrp_network.specs.Network.{End, node_count}
+use Rattle.wrp_base.specs.Link.{other_of}
 use Rattle.wrp_bounds.specs.Times.{shortest_tick, longest_tick}
 use Rattle.wrp_node.specs.NodeAt.{dac_of}
 use Rattle.wrp_phase.specs.BeatPattern.{true_step}

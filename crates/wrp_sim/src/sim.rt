@@ -1,6 +1,6 @@
 //! The simulator: the events of a network, each by the first rule that applies.
 ghost use Rattle.std.specs.Prelude.{◌≡◌, IfOk, IfSome, length, pos, true};
-ghost use Rattle.wrp_base.specs.declared.configuration.NetCfg.{NetCfg};
+ghost use Rattle.wrp_network.specs.declared.configuration.NetCfg.{NetCfg};
 ghost use Rattle.wrp_sim.specs.HandsOver.{HandsOver};
 ghost use Rattle.wrp_scene.specs.Scenario.{IsSceneOf};
 ghost use Rattle.wrp_sim.specs.Sim.{FitsSim, FollowsRules, SimIs, StaysFit, put};

@@ -7,9 +7,10 @@ use Rattle.std.proofs.lemmas.List.{length-map}
 use Rattle.std.proofs.lemmas.Option.{slice_get-map}
 use Rattle.wrp_base.specs.declared.link.Module.{Module}
 use Rattle.wrp_base.specs.declared.link.Role.TheVariants.{Master, Slave}
-use Rattle.wrp_base.specs.declared.network.LinkCfg.{LinkCfg}
+use Rattle.wrp_network.specs.declared.network.LinkCfg.{LinkCfg}
 use Rattle.wrp_base.specs.declared.time.Raw.{Raw}
-use Rattle.wrp_base.specs.Network.{End, node_count, other_of}
+use Rattle.wrp_network.specs.Network.{End, node_count}
+use Rattle.wrp_base.specs.Link.{other_of}
 use Rattle.wrp_config.specs.Config.{bare_link, bare_node}
 use Rattle.wrp_config.specs.Same.{bare_cfg}
 use Rattle.wrp_lines.specs.Lines.{output_line_of, sum_line_of}

@@ -7,7 +7,7 @@ use Rattle.std.proofs.lemmas.Bool.{eqb-true}
 use Rattle.std.proofs.lemmas.Nat.{pow_pos}
 use Rattle.wrp_base.specs.declared.message.PtpMsg.{PtpMsg}
 use Rattle.wrp_base.specs.declared.time.Raw.{Raw}
-use Rattle.wrp_base.specs.Network.{node_count}
+use Rattle.wrp_network.specs.Network.{node_count}
 use Rattle.wrp_base.proofs.Lists.{all_append}
 use Rattle.wrp_base.proofs.Naturals.{below_word}
 use Rattle.wrp_frame.specs.declared.fault.FrameFault.{FrameFault}

@@ -1,6 +1,6 @@
 -- A network that is simulated: before its first event, and behind each that it took.
 use Rattle.std.proofs.Common.{◌≡◌, ◌∙◌, ap, sym, subst, ℤ, List, Option, map}
-use Rattle.wrp_base.specs.Network.{node_count}
+use Rattle.wrp_network.specs.Network.{node_count}
 use Rattle.wrp_config.specs.declared.network.Network.{Network}
 use Rattle.wrp_law.specs.Law.{LawOf}
 use Rattle.wrp_node.specs.Control.{law_in}

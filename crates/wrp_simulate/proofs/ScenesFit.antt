@@ -3,10 +3,10 @@ use Rattle.std.proofs.Common.{◌≡◌, sym, ℕ, ℤ, pos, negsuc, ◌*◌, �
 use Rattle.std.specs.Prelude.{is_none, nat_lt, slice_set}
 use Rattle.std.proofs.lemmas.Bool.{ltb-true}
 use Rattle.std.proofs.lemmas.Int.{ints}
-use Rattle.wrp_base.specs.declared.configuration.NetCfg.{NetCfg}
+use Rattle.wrp_network.specs.declared.configuration.NetCfg.{NetCfg}
 use Rattle.wrp_base.specs.declared.fault.TraceFault.TheVariants.{Fields, Kind, Name, Number}
 use Rattle.wrp_base.specs.Lines.{parts_of}
-use Rattle.wrp_base.specs.Network.{link_above, node_count}
+use Rattle.wrp_network.specs.Network.{link_above, node_count}
 use Rattle.wrp_caldb.specs.Name.{same_name}
 use Rattle.wrp_names.specs.Fields.{link_at, node_at}
 use Rattle.wrp_fields.specs.Numbers.{number_in}

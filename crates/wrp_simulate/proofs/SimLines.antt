@@ -4,8 +4,8 @@ use Rattle.std.specs.Prelude.{filter, fold, max, min, slice_get, slice_set, unsi
 use Rattle.std.proofs.lemmas.Bool.Decides.{nat_tests}
 use Rattle.std.proofs.lemmas.List.{map-append, take_all, take_more}
 use Rattle.std.specs.List.{AllByRecursion}
-use Rattle.wrp_base.specs.Network.{name_at, node_count}
-use Rattle.wrp_base.specs.declared.configuration.NetCfg.{NetCfg}
+use Rattle.wrp_network.specs.Network.{name_at, node_count}
+use Rattle.wrp_network.specs.declared.configuration.NetCfg.{NetCfg}
 use Rattle.wrp_bounds.specs.Bounds.{path_of}
 use Rattle.wrp_config.specs.Accepted.{greatest}
 use Rattle.wrp_node.specs.NodeAt.{NodeSetting, NodeAt, Taken, state_of}

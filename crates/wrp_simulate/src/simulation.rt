@@ -1,7 +1,7 @@
 //! A network that is simulated: its world, and what makes its events.
 ghost use Rattle.std.specs.Prelude.{◌≡◌, ◌<◌, ◌+◌, ◌++◌, [], ℕ, ℤ, List, IfOk, OnOk, length, map, pos};
 ghost use Rattle.std.specs.List.{flat_map};
-ghost use Rattle.wrp_base.specs.Network.{node_count};
+ghost use Rattle.wrp_network.specs.Network.{node_count};
 ghost use Rattle.wrp_bounds.specs.Bounds.{path_of};
 ghost use Rattle.wrp_config.specs.Accepted.{IsAccepted};
 ghost use Rattle.wrp_scene.specs.Scenario.{IsSceneOf};

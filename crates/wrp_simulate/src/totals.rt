@@ -1,7 +1,7 @@
 //! What the track lines of each node of a simulation tell.
 ghost use Rattle.std.specs.Prelude.{◌≡◌, ◌<◌, ◌++◌, ◌∷◌, [], ℕ, ℤ, List, IfOk, filter, length, map};
 ghost use Rattle.std.specs.List.{AllByRecursion};
-ghost use Rattle.wrp_base.specs.Network.{node_count};
+ghost use Rattle.wrp_network.specs.Network.{node_count};
 ghost use Rattle.wrp_course.specs.declared.node_out.NodeOut.{NodeOut};
 ghost use Rattle.wrp_course.specs.Setting.{Setting};
 ghost use Rattle.wrp_world.specs.StandsFor.{IsValid, StandsFor};

@@ -6,7 +6,7 @@ use Rattle.std.proofs.lemmas.List.{length-set, length-map, drop_more}
 use Rattle.std.proofs.lemmas.Option.{unwrap_or-slice_get}
 use Rattle.wrp_base.specs.declared.fault.TraceFault.{TraceFault}
 use Rattle.wrp_fields.specs.Reading.{field_of, ◌>>=◌}
-use Rattle.wrp_base.specs.declared.configuration.NetCfg.{NetCfg}
+use Rattle.wrp_network.specs.declared.configuration.NetCfg.{NetCfg}
 use Rattle.wrp_trace.specs.Changes.{SaidAt, is_said, count_said, said_count, with_drift, with_move, nothing_said, change_said, changes_said}
 use Rattle.wrp_trace.specs.EventAt.{Fits, IsSaid}
 use Rattle.wrp_course.specs.EventAt.{IsChange, IsMove}

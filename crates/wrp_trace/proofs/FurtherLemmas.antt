@@ -3,9 +3,9 @@ use Rattle.std.proofs.Common.{◌≡◌, ◌∙◌, ℕ, ℤ, ◌+◌, ◌<◌, 
 use Rattle.std.specs.Prelude.{codes, ◌==◌, ◌&&◌, unsigned_abs, if◌then◌else◌}
 use Rattle.std.specs.Fmt.{signed_decimal}
 use Rattle.std.proofs.lemmas.List.{drop_more, append_assoc, append-nil}
-use Rattle.wrp_base.specs.declared.configuration.NetCfg.{NetCfg}
-use Rattle.wrp_base.specs.declared.network.LinkCfg.{LinkCfg}
-use Rattle.wrp_base.specs.declared.network.NodeCfg.{NodeCfg}
+use Rattle.wrp_network.specs.declared.configuration.NetCfg.{NetCfg}
+use Rattle.wrp_network.specs.declared.network.LinkCfg.{LinkCfg}
+use Rattle.wrp_network.specs.declared.network.NodeCfg.{NodeCfg}
 use Rattle.wrp_course.specs.declared.event.Swap.{Swap}
 use Rattle.wrp_trace.specs.Printing.{joined}
 use Rattle.wrp_trace.specs.EventPrinting.{further, drift_words, drift_text, drift_piece, drift_texts, move_words, move_text, move_piece, move_texts, swap_text, pass_texts}

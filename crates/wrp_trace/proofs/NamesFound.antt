@@ -6,10 +6,10 @@ use Rattle.std.proofs.lemmas.Bool.{false_from_ne_true, le-ltb}
 use Rattle.std.proofs.lemmas.List.Sums.{position_or_len_is}
 use Rattle.std.proofs.lemmas.Option.{slice_get-get_or}
 use Rattle.std.proofs.lemmas.Slice.Eq.{bytes_eq-Decides}
-use Rattle.wrp_base.specs.declared.configuration.NetCfg.{NetCfg}
-use Rattle.wrp_base.specs.declared.network.LinkCfg.{LinkCfg}
-use Rattle.wrp_base.specs.declared.network.NodeCfg.{NodeCfg}
-use Rattle.wrp_base.specs.Network.{IsLink, IsNode}
+use Rattle.wrp_network.specs.declared.configuration.NetCfg.{NetCfg}
+use Rattle.wrp_network.specs.declared.network.LinkCfg.{LinkCfg}
+use Rattle.wrp_network.specs.declared.network.NodeCfg.{NodeCfg}
+use Rattle.wrp_network.specs.Network.{IsLink, IsNode}
 use Rattle.wrp_base.proofs.Lists.{first_is}
 use Rattle.wrp_caldb.specs.Name.{same_name}
 use Rattle.wrp_config.specs.Accepted.{HasNames}

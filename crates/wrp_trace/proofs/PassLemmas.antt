@@ -3,8 +3,8 @@ use Rattle.std.proofs.Common.{◌∙◌, ℤ, pos, List, [], ◌∷◌, Option, 
 use Rattle.std.specs.Prelude.{unwrap_or}
 use Rattle.std.specs.List.{AllByRecursion}
 use Rattle.std.proofs.lemmas.List.{length-map}
-use Rattle.wrp_base.specs.declared.configuration.NetCfg.{NetCfg}
-use Rattle.wrp_base.specs.Network.{IsFromTo}
+use Rattle.wrp_network.specs.declared.configuration.NetCfg.{NetCfg}
+use Rattle.wrp_base.specs.Ranges.{IsFromTo}
 use Rattle.wrp_trace.specs.Changes.{SaidAt, all_drifts, all_moves}
 use Rattle.wrp_trace.specs.EventAt.{Fits, IsSaid}
 use Rattle.wrp_course.specs.EventAt.{IsChange, IsMove, IsPass}

@@ -1,7 +1,7 @@
 -- The further fields of a `pass`: NODE=DRIFT and LINK=MS/SM, any number of them, each name once (this
 -- project's profile). The octets 61 and 47 are `=` and `/`.
 use Rattle.std.specs.Prelude.{ℕ, ℤ, pos, negsuc, ◌+◌, if◌then◌else◌, is_some, Bool, Option, None, Some, option_map, option_and_then, unwrap_or, Result, Ok, Err, List, [], ◌∷◌, map, slice_get, slice_set}
-use Rattle.wrp_base.specs.declared.configuration.NetCfg.{NetCfg}
+use Rattle.wrp_network.specs.declared.configuration.NetCfg.{NetCfg}
 use Rattle.wrp_base.specs.declared.fault.TraceFault.{TraceFault}
 use Rattle.wrp_base.specs.declared.fault.TraceFault.TheVariants.{Name}
 use Rattle.wrp_config.specs.Names.{node_named, link_named}

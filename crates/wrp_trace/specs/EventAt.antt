@@ -1,8 +1,8 @@
 -- What a line says so far of a network (this project's profile).
 use Rattle.std.specs.Prelude.{◌≡◌, Option, None, Some, length}
 use Rattle.std.specs.List.{AllByRecursion}
-use Rattle.wrp_base.specs.declared.configuration.NetCfg.{NetCfg}
-use Rattle.wrp_base.specs.Network.{node_count}
+use Rattle.wrp_network.specs.declared.configuration.NetCfg.{NetCfg}
+use Rattle.wrp_network.specs.Network.{node_count}
 use Rattle.wrp_course.specs.EventAt.{link_count, IsChange, IsMove}
 use Rattle.wrp_trace.specs.Changes.{SaidAt}
 

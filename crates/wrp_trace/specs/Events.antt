@@ -1,7 +1,7 @@
 -- Event lines: what each says, and which fault comes first in one that says nothing (this project's
 -- profile). The kind is tried first, then the number of fields, then the fields from left to right.
 use Rattle.std.specs.Prelude.{◌≡◌, ℕ, ℤ, if◌then◌else◌, Option, None, Some, Result, Ok, Err, List, [], map, drop, length}
-use Rattle.wrp_base.specs.declared.configuration.NetCfg.{NetCfg}
+use Rattle.wrp_network.specs.declared.configuration.NetCfg.{NetCfg}
 use Rattle.wrp_base.specs.declared.fault.TraceFault.{TraceFault}
 use Rattle.wrp_base.specs.declared.fault.TraceFault.TheVariants.{Fields, Kind}
 use Rattle.wrp_base.specs.Lines.{parts_of}

@@ -1,9 +1,9 @@
 -- Where a line of inputs belongs: a node of a network (this project's profile).
 use Rattle.std.specs.Prelude.{◌==◌, ◌&&◌, ℕ, Bool, false, if◌then◌else◌, Option, Some, None, is_none, is_some, option_map, List, codes}
 use Rattle.std.specs.List.{find}
-use Rattle.wrp_base.specs.declared.configuration.NetCfg.{NetCfg}
+use Rattle.wrp_network.specs.declared.configuration.NetCfg.{NetCfg}
 use Rattle.wrp_base.specs.declared.link.Module.{Module}
-use Rattle.wrp_base.specs.Network.{link_above}
+use Rattle.wrp_network.specs.Network.{link_above}
 use Rattle.wrp_caldb.specs.Database.{Database}
 use Rattle.wrp_caldb.specs.Name.{same_name}
 use Rattle.wrp_config.specs.Names.{pair_at, listed_at}

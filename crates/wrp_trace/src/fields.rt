@@ -4,7 +4,7 @@ ghost use Rattle.csv.specs.Records.{fields_of};
 ghost use Rattle.wrp_trace.specs.Fields.{u16_at, u32_at, step_at, counter_at, bits_at, octets_at, time_at, raw_from, stamp_from, port_at, message_at, module_at};
 ghost use Rattle.wrp_trace.specs.InputAt.{IsListed};
 ghost use Rattle.wrp_trace.specs.LineSetting.{line_setting_of, has_port};
-ghost use Rattle.wrp_base.specs.Network.{IsAmong};
+ghost use Rattle.wrp_base.specs.Ranges.{IsAmong};
 ghost use Rattle.wrp_course.specs.EventAt.{IsRaw, IsTime};
 
 use crate::digits::{bits, octets};

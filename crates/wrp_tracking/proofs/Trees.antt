@@ -3,10 +3,10 @@ use Rattle.std.proofs.Common.{◌≡◌, ℕ, ℤ, pos, zero, suc, ◌+◌, ◌*
 use Rattle.std.proofs.lemmas.Int.{ints}
 use Rattle.std.proofs.Math.Nat.{mul-le-mul_left}
 use Rattle.std.specs.Prelude.{◌==◌, unsigned_abs}
-use Rattle.wrp_base.specs.declared.configuration.NetCfg.{NetCfg}
-use Rattle.wrp_base.specs.declared.network.LinkCfg.{LinkCfg}
+use Rattle.wrp_network.specs.declared.configuration.NetCfg.{NetCfg}
+use Rattle.wrp_network.specs.declared.network.LinkCfg.{LinkCfg}
 use Rattle.wrp_base.specs.declared.link.ServoState.TheVariants.{Track}
-use Rattle.wrp_base.specs.Network.{IsTree, IsLink, HasDepth, link_above, node_count}
+use Rattle.wrp_network.specs.Network.{IsTree, IsLink, HasDepth, link_above, node_count}
 use Rattle.wrp_base.specs.Closeness.{IsWithin}
 use Rattle.wrp_base.proofs.Lists.{found_at}
 use Rattle.wrp_bounds.specs.Bounds.{hop_of, path_of, holdover_of}

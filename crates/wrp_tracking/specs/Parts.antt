@@ -1,12 +1,12 @@
 -- The parts of the tracking invariant, over a history of states of a world, the newest first: what the
 -- bound needs of a state (this project's profile).
 use Rattle.std.specs.Prelude.{ℕ, ℤ, pos, ◌≡◌, ◌<◌, ◌≤◌, ◌+ℤ◌, ◌≤ℤ◌, unsigned_abs, map, Some, None, List, ◌∷◌}
-use Rattle.wrp_base.specs.declared.configuration.NetCfg.{NetCfg}
-use Rattle.wrp_base.specs.declared.network.NodeCfg.{NodeCfg}
-use Rattle.wrp_base.specs.declared.network.LinkCfg.{LinkCfg}
+use Rattle.wrp_network.specs.declared.configuration.NetCfg.{NetCfg}
+use Rattle.wrp_network.specs.declared.network.NodeCfg.{NodeCfg}
+use Rattle.wrp_network.specs.declared.network.LinkCfg.{LinkCfg}
 use Rattle.wrp_base.specs.declared.link.Deltas.{Deltas}
 use Rattle.wrp_base.specs.declared.link.ServoState.TheVariants.{Track, Holdover}
-use Rattle.wrp_base.specs.Network.{IsNode, IsTree, link_above, node_count}
+use Rattle.wrp_network.specs.Network.{IsNode, IsTree, link_above, node_count}
 use Rattle.wrp_exch.specs.Call.{Call}
 use Rattle.wrp_servo.specs.declared.machine.Core.{Core}
 use Rattle.wrp_servo.specs.Measuring.{delay_of}

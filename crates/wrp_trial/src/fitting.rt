@@ -1,11 +1,12 @@
 //! Which events can come to a network of two or three nodes.
 ghost use Rattle.std.specs.Prelude.{◌≡◌, IsTrue, true};
 ghost use Rattle.std.specs.List.{AllByRecursion};
-ghost use Rattle.wrp_base.specs.Network.{IsFromTo};
+ghost use Rattle.wrp_base.specs.Ranges.{IsFromTo};
 ghost use Rattle.wrp_caldb.specs.Name.{is_name};
 ghost use Rattle.wrp_course.specs.EventAt.{AreSwaps, IsChange, IsEventOf, IsMove, IsRaw, IsSwap, IsTime};
 
-use wrp_base::{Name, NetCfg, Raw, Tau};
+use wrp_base::{Raw, Tau};
+use wrp_network::{Name, NetCfg};
 use wrp_caldb::is_name;
 use wrp_world::{Event, Swap};
 

@@ -1,6 +1,6 @@
 //! A world under test: its network with its laws, and what comes of an event.
 ghost use Rattle.std.specs.Prelude.{◌≡◌, ◌≤◌, length, IfOk, IsTrue};
-ghost use Rattle.wrp_base.specs.Network.{node_count};
+ghost use Rattle.wrp_network.specs.Network.{node_count};
 ghost use Rattle.wrp_config.specs.Accepted.{IsAccepted};
 ghost use Rattle.wrp_law.specs.declared.delay.LawKind.TheVariants.{Linear};
 ghost use Rattle.wrp_law.specs.Law.{KeepsFact};
@@ -11,7 +11,8 @@ ghost use Rattle.wrp_world.specs.StandsFor.{IsValid};
 use crate::fitting::can_come;
 use crate::network::THREE_NODES;
 use std::alloc::{AllocError, AllocFailed, Global};
-use wrp_base::{ConfFault, LinkCfg, NetCfg, Tau};
+use wrp_base::{ConfFault, Tau};
+use wrp_network::{LinkCfg, NetCfg};
 use wrp_config::{Network, link_above};
 use wrp_law::{DelayLaw, LawKind};
 use wrp_world::{Event, NodeOut, Refused, World};

@@ -3,8 +3,8 @@
 use Rattle.std.specs.Prelude.{◌≡◌, ◌<◌, ◌≤◌, ◌-ℤ◌, ℕ, ℤ, true, unsigned_abs, List, ◌∷◌, Some}
 use Rattle.std.specs.List.{AllByRecursion}
 use Rattle.wrp_base.specs.declared.link.ServoState.TheVariants.{Track}
-use Rattle.wrp_base.specs.declared.network.LinkCfg.{LinkCfg}
-use Rattle.wrp_base.specs.Network.{link_above, node_count}
+use Rattle.wrp_network.specs.declared.network.LinkCfg.{LinkCfg}
+use Rattle.wrp_network.specs.Network.{link_above, node_count}
 use Rattle.wrp_base.specs.Closeness.{IsWithin}
 use Rattle.wrp_bounds.specs.Bounds.{numbers_of, path_of}
 use Rattle.wrp_bounds.specs.Hop.{estimate_error}

@@ -1,6 +1,6 @@
 -- Chains of good samples in a run: their limits, their samples, and their constant (this project's profile).
 use Rattle.std.specs.Prelude.{◌≡◌, ◌+◌, ◌==◌, ◌++◌, ◌+ℤ◌, ◌≤ℤ◌, ℕ, ℤ, pos, if◌then◌else◌, List, [], ◌∷◌, length, Option, None, Some, option_map, option_to_list}
-use Rattle.wrp_base.specs.declared.network.LinkCfg.{LinkCfg}
+use Rattle.wrp_network.specs.declared.network.LinkCfg.{LinkCfg}
 use Rattle.wrp_bounds.specs.Bounds.{numbers_of}
 use Rattle.wrp_bounds.specs.declared.numbers.HopNumbers.{HopNumbers}
 use Rattle.wrp_node.specs.NodeAt.{servo_at, servo_setting_of}

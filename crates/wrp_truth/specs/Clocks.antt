@@ -1,6 +1,6 @@
 -- The ticks of the nodes of a run, by true time (this project's profile).
 use Rattle.std.specs.Prelude.{◌≡◌, ◌<◌, ℕ, true, List, ◌∷◌}
-use Rattle.wrp_base.specs.Network.{node_count}
+use Rattle.wrp_network.specs.Network.{node_count}
 use Rattle.wrp_bounds.specs.Times.{longest_tick, shortest_tick}
 use Rattle.wrp_tracking.specs.Ticks.{IsOnTime, TickStep}
 use Rattle.wrp_course.specs.Run.{Happened, world_after}

@@ -1,7 +1,7 @@
 -- What the exchange of a slave keeps while a chain of its servo stands: its pairs tell the chain's constant (this
 -- project's profile).
 use Rattle.std.specs.Prelude.{◌≡◌, ◌≤◌, ◌+ℤ◌, ◌-ℤ◌, ℕ, List, ◌∷◌, ◌++◌, length, Some, IfSome}
-use Rattle.wrp_base.specs.declared.network.LinkCfg.{LinkCfg}
+use Rattle.wrp_network.specs.declared.network.LinkCfg.{LinkCfg}
 use Rattle.wrp_base.specs.Closeness.{IsWithin}
 use Rattle.wrp_bounds.specs.Bounds.{numbers_of}
 use Rattle.wrp_bounds.specs.Hop.{down_error}

@@ -1,7 +1,7 @@
 -- The fibres of a run, while they are joined (this project's profile).
 use Rattle.std.specs.Prelude.{◌≡◌, ◌≤◌, ◌*◌, ◌^◌, ◌≤ℤ◌, unsigned_abs, ℕ, pos, true, List, Some}
 use Rattle.wrp_base.specs.declared.link.Role.TheVariants.{Master, Slave}
-use Rattle.wrp_base.specs.declared.network.LinkCfg.{LinkCfg}
+use Rattle.wrp_network.specs.declared.network.LinkCfg.{LinkCfg}
 use Rattle.wrp_bounds.specs.Times.{reach}
 use Rattle.wrp_course.specs.Premises.{asymmetry}
 use Rattle.wrp_course.specs.Run.{Happened, world_after}

@@ -1,8 +1,8 @@
 -- HOLDOVER in a run: since when, how fast, and how long (this project's profile).
 use Rattle.std.specs.Prelude.{◌≡◌, ◌+ℤ◌, ◌≤ℤ◌, ℕ, pos, true, List, ◌∷◌, ◌++◌, length, Some}
 use Rattle.wrp_base.specs.declared.link.ServoState.TheVariants.{Holdover, Track}
-use Rattle.wrp_base.specs.declared.network.LinkCfg.{LinkCfg}
-use Rattle.wrp_base.specs.Network.{link_above}
+use Rattle.wrp_network.specs.declared.network.LinkCfg.{LinkCfg}
+use Rattle.wrp_network.specs.Network.{link_above}
 use Rattle.wrp_bounds.specs.Times.{held_time}
 use Rattle.wrp_node.specs.NodeAt.{state_of}
 use Rattle.wrp_tracking.specs.History.{EachStep, IsSlow}

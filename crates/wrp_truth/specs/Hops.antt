@@ -3,10 +3,10 @@
 -- to the grandmaster are in TRACK, the offset is within the sum of their hops, with no motion of HOLDOVER (this project's profile).
 use Rattle.std.specs.Prelude.{◌≡◌, ◌+◌, ◌≤◌, ℕ, true, unsigned_abs, List, [], ◌∷◌, None, Some}
 use Rattle.wrp_base.specs.Closeness.{IsWithin}
-use Rattle.wrp_base.specs.declared.configuration.NetCfg.{NetCfg}
+use Rattle.wrp_network.specs.declared.configuration.NetCfg.{NetCfg}
 use Rattle.wrp_base.specs.declared.link.ServoState.TheVariants.{Track}
-use Rattle.wrp_base.specs.declared.network.LinkCfg.{LinkCfg}
-use Rattle.wrp_base.specs.Network.{link_above}
+use Rattle.wrp_network.specs.declared.network.LinkCfg.{LinkCfg}
+use Rattle.wrp_network.specs.Network.{link_above}
 use Rattle.wrp_bounds.specs.Bounds.{hop_of}
 use Rattle.wrp_node.specs.NodeAt.{state_of}
 use Rattle.wrp_course.specs.Run.{Happened, world_after}

@@ -6,7 +6,7 @@ use Rattle.wrp_base.specs.declared.link.Role.{Role}
 use Rattle.wrp_base.specs.declared.link.Role.TheVariants.{Master, Slave}
 use Rattle.wrp_base.specs.declared.message.Body.TheVariants.{DelayResp, FollowUp}
 use Rattle.wrp_base.specs.declared.message.PortIdentity.{PortIdentity}
-use Rattle.wrp_base.specs.declared.network.LinkCfg.{LinkCfg}
+use Rattle.wrp_network.specs.declared.network.LinkCfg.{LinkCfg}
 use Rattle.wrp_base.specs.declared.time.Ts.{Ts}
 use Rattle.wrp_bounds.specs.Times.{frame_life}
 use Rattle.wrp_exch.specs.declared.delay.Sent.{Sent}

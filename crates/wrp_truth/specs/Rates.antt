@@ -1,7 +1,7 @@
 -- How fast clocks and fibres move in a run (this project's profile). Rates are in 10^-12.
 use Rattle.std.specs.Prelude.{◌≡◌, ℕ, pos, max, true, if◌then◌else◌, is_some, List, ◌∷◌, None, Some}
-use Rattle.wrp_base.specs.declared.network.LinkCfg.{LinkCfg}
-use Rattle.wrp_base.specs.Network.{link_above}
+use Rattle.wrp_network.specs.declared.network.LinkCfg.{LinkCfg}
+use Rattle.wrp_network.specs.Network.{link_above}
 use Rattle.wrp_bounds.specs.Bounds.{numbers_of}
 use Rattle.wrp_bounds.specs.declared.numbers.HopNumbers.{HopNumbers}
 use Rattle.wrp_node.specs.NodeAt.{servo_at}

@@ -5,7 +5,7 @@ use Rattle.wrp_base.specs.declared.link.Role.{Role}
 use Rattle.wrp_base.specs.declared.link.Role.TheVariants.{Master, Slave}
 use Rattle.wrp_base.specs.declared.message.Body.{Body}
 use Rattle.wrp_base.specs.declared.message.Body.TheVariants.{DelayReq, Sync}
-use Rattle.wrp_base.specs.declared.network.LinkCfg.{LinkCfg}
+use Rattle.wrp_network.specs.declared.network.LinkCfg.{LinkCfg}
 use Rattle.wrp_bounds.specs.Times.{shortest_tick}
 use Rattle.wrp_node.specs.NodeAt.{link_at}
 use Rattle.wrp_port.specs.Hearing.{is_open}

@@ -1,7 +1,7 @@
 -- Chains of a servo in a run: what was so of its node, and of the node's parent, since a chain began (this project's profile).
 use Rattle.std.specs.Prelude.{◌≡◌, ◌≤◌, ◌≤ℤ◌, ◌+ℤ◌, ◌++◌, ℕ, ℤ, pos, true, List, [], ◌∷◌, length, Some, IfSome}
 use Rattle.wrp_base.specs.declared.link.Role.TheVariants.{Master}
-use Rattle.wrp_base.specs.declared.network.LinkCfg.{LinkCfg}
+use Rattle.wrp_network.specs.declared.network.LinkCfg.{LinkCfg}
 use Rattle.wrp_bounds.specs.Times.{gap_time}
 use Rattle.wrp_exch.specs.declared.sync.HeldSync.{HeldSync}
 use Rattle.wrp_exch.specs.SyncPair.{last_sync}

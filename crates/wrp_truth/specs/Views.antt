@@ -1,7 +1,7 @@
 -- What a world shows to the laws on how far its nodes are from true time (this project's profile).
 use Rattle.std.specs.Prelude.{ℕ, List, map}
 use Rattle.wrp_base.specs.declared.link.Role.TheVariants.{Master, Slave}
-use Rattle.wrp_base.specs.declared.network.LinkCfg.{LinkCfg}
+use Rattle.wrp_network.specs.declared.network.LinkCfg.{LinkCfg}
 use Rattle.wrp_node.specs.NodeAt.{state_of}
 use Rattle.wrp_tracking.specs.Moment.{Moment}
 use Rattle.wrp_tracking.specs.Ticks.{TickMoment}

@@ -1,7 +1,7 @@
 -- The node of the first port at which a frame waits that was put out now is one of the world.
 use Rattle.std.proofs.Common.{◌∙◌, ap, sym, subst, ℕ, ◌<◌, ℤ, Option, None, Some, IfSome, length}
-use Rattle.wrp_base.specs.declared.configuration.NetCfg.{NetCfg}
-use Rattle.wrp_base.specs.Network.{node_count}
+use Rattle.wrp_network.specs.declared.configuration.NetCfg.{NetCfg}
+use Rattle.wrp_network.specs.Network.{node_count}
 use Rattle.wrp_plant.specs.PutOut.{first_put_out}
 use Rattle.wrp_plant.proofs.FirstPorts.{first_within}
 use Rattle.wrp_world.specs.StandsFor.{IsValid, Tells, WorldOf}

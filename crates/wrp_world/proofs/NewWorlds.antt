@@ -1,7 +1,7 @@
 -- A world before any event stands for the first state of a world, and each of its nodes for no inputs.
 use Rattle.std.proofs.Common.{◌≡◌, refl, ℕ, ◌≤◌, ℤ, List, length, Option, arith}
-use Rattle.wrp_base.specs.declared.configuration.NetCfg.{NetCfg}
-use Rattle.wrp_base.specs.Network.{node_count}
+use Rattle.wrp_network.specs.declared.configuration.NetCfg.{NetCfg}
+use Rattle.wrp_network.specs.Network.{node_count}
 use Rattle.wrp_caldb.specs.Database.{Database}
 use Rattle.wrp_law.specs.Law.{LawOf}
 use Rattle.wrp_world.specs.New.{IsNewNode, setting_of}

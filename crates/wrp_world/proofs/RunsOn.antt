@@ -1,6 +1,6 @@
 -- A run goes on with the event that a step takes.
 use Rattle.std.proofs.Common.{subst, ℤ, List, ◌∷◌, Result}
-use Rattle.wrp_base.specs.declared.configuration.NetCfg.{NetCfg}
+use Rattle.wrp_network.specs.declared.configuration.NetCfg.{NetCfg}
 use Rattle.wrp_base.specs.declared.message.PtpMsg.{PtpMsg}
 use Rattle.wrp_frame.specs.declared.fault.FrameFault.{FrameFault}
 use Rattle.wrp_course.specs.declared.event.Event.{Event}

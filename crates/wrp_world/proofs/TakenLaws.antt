@@ -1,7 +1,7 @@
 -- The laws of a world's nodes, taken one after another.
 use Rattle.std.proofs.Common.{◌≡◌, ◌∙◌, ap, sym, subst, ℕ, zero, suc, ◌+◌, ◌<◌, ◌≤◌, ℤ, List, [], ◌∷◌, length, drop, Option, Some, slice_get, option_and_then, arith}
 use Rattle.std.proofs.lemmas.List.{length-drop}
-use Rattle.wrp_base.specs.declared.configuration.NetCfg.{NetCfg}
+use Rattle.wrp_network.specs.declared.configuration.NetCfg.{NetCfg}
 use Rattle.wrp_base.proofs.Lists.{head_and_tail}
 use Rattle.wrp_law.specs.Law.{LawOf}
 use Rattle.wrp_node.specs.Control.{law_in}

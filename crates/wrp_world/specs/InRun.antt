@@ -1,6 +1,6 @@
 -- Worlds that are what the events of a run made of them (this project's profile).
 use Rattle.std.specs.Prelude.{ℤ, List, [], ◌∷◌, Option, Result}
-use Rattle.wrp_base.specs.declared.configuration.NetCfg.{NetCfg}
+use Rattle.wrp_network.specs.declared.configuration.NetCfg.{NetCfg}
 use Rattle.wrp_base.specs.declared.message.PtpMsg.{PtpMsg}
 use Rattle.wrp_caldb.specs.Database.{Database}
 use Rattle.wrp_config.specs.Accepted.{IsAccepted}

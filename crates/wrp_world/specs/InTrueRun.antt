@@ -1,8 +1,8 @@
 -- Worlds in a run whose events' numbers fit the types that hold them, with a law that fits for each node that has a link above it
 -- (this project's profile).
 use Rattle.std.specs.Prelude.{◌≡◌, ℤ, length, List}
-use Rattle.wrp_base.specs.declared.configuration.NetCfg.{NetCfg}
-use Rattle.wrp_base.specs.Network.{node_count}
+use Rattle.wrp_network.specs.declared.configuration.NetCfg.{NetCfg}
+use Rattle.wrp_network.specs.Network.{node_count}
 use Rattle.wrp_course.specs.Run.{Happened}
 use Rattle.wrp_course.specs.Setting.{Setting}
 use Rattle.wrp_plant.specs.Plant.{Each}

@@ -2,7 +2,7 @@
 -- (this project's profile).
 use Rattle.std.specs.Prelude.{◌≡◌, ◌≤◌, ℕ, ℤ, Bool, List, length}
 use Rattle.wrp_base.specs.declared.link.Mark.{Mark}
-use Rattle.wrp_base.specs.Network.{node_count}
+use Rattle.wrp_network.specs.Network.{node_count}
 use Rattle.wrp_node.specs.Node.{IsValid as NodeIsValid}
 use Rattle.wrp_node.specs.NodeRun.{node_after}
 use Rattle.wrp_node.specs.Set.{set_of}

@@ -2,8 +2,8 @@
 -- project's profile).
 use Rattle.std.specs.Prelude.{◌≡◌, ◌≤◌, ◌<◌, ◌+◌, ◌%◌, ◌==◌, ℕ, ℤ, Bool, true, false, List, [], ◌∷◌, map, Option}
 use Rattle.std.specs.List.{AllByRecursion, AllZip}
-use Rattle.wrp_base.specs.declared.configuration.NetCfg.{NetCfg}
-use Rattle.wrp_base.specs.Network.{node_count}
+use Rattle.wrp_network.specs.declared.configuration.NetCfg.{NetCfg}
+use Rattle.wrp_network.specs.Network.{node_count}
 use Rattle.wrp_law.specs.Law.{LawOf}
 use Rattle.wrp_node.specs.Control.{law_in}
 use Rattle.wrp_node.specs.declared.interface.Input.{Input}

@@ -1,7 +1,7 @@
 -- The replay of the node of a name.
 use Rattle.std.proofs.Common.{◌≡◌, ◌∙◌, ap, ap₂, sym, subst, ℕ, Some, None, Ok, List}
 use Rattle.std.proofs.lemmas.Option.{same_Some}
-use Rattle.wrp_base.specs.declared.configuration.NetCfg.{NetCfg}
+use Rattle.wrp_network.specs.declared.configuration.NetCfg.{NetCfg}
 use Rattle.wrp_caldb.specs.Database.{Database}
 use Rattle.wrp_config.proofs.OneReading.{one_reading}
 use Rattle.wrp_config.specs.Names.{node_named}

@@ -1,7 +1,7 @@
 //! The fields of a calibration's lines: what each line says, or its fault.
 ghost use Rattle.std.specs.Prelude.{◌≡◌, ◌<◌, ◌≤◌, ◌^◌, All, IfOk, unsigned_abs};
 ghost use Rattle.csv.specs.Records.{fields_of};
-ghost use Rattle.wrp_base.specs.Network.{IsAmong};
+ghost use Rattle.wrp_base.specs.Ranges.{IsAmong};
 ghost use Rattle.wrp_calib.specs.Lines.{cord_line, delay_at, error_at, error_line, run_line, run_said, time_at};
 ghost use Rattle.wrp_calib.specs.Said.{says_cord, says_error, says_run};
 

@@ -1,7 +1,7 @@
 //! The fields of the lines of `l1sync`, by their places from 1: what each says, or its fault.
 ghost use Rattle.std.specs.Prelude.{◌≡◌, ◌<◌, ◌≤◌, ◌^◌, IfOk};
 ghost use Rattle.csv.specs.Records.{fields_of};
-ghost use Rattle.wrp_base.specs.Network.{IsAmong};
+ghost use Rattle.wrp_base.specs.Ranges.{IsAmong};
 ghost use Rattle.wrp_l1sync.specs.LineFields.{ticks_at, span_at, life_at, bits_at, message_at, end_at, bits_from};
 
 use crate::L1Msg;

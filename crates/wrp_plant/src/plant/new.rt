@@ -1,7 +1,7 @@
 //! A plant before any event.
 ghost use Rattle.std.specs.Prelude.{◌≡◌, ◌*ℤ◌, ◌-ℤ◌, IfOk, length, pos};
 ghost use Rattle.std.specs.Option.{option_map_or};
-ghost use Rattle.wrp_base.specs.Network.{HasRanges};
+ghost use Rattle.wrp_network.specs.Network.{HasRanges};
 ghost use Rattle.wrp_base.specs.Clock.{second};
 ghost use Rattle.wrp_bounds.specs.Times.{frame_life};
 ghost use Rattle.wrp_config.specs.Accepted.{IsAccepted};
@@ -15,7 +15,8 @@ use super::Plant;
 use crate::checks::frame_life as life;
 use crate::ends::{EndState, Span};
 use std::alloc::{AllocError, Global};
-use wrp_base::{LinkCfg, Module, Name, NetCfg, Tau, difference, product};
+use wrp_base::{Module, Tau, difference, product};
+use wrp_network::{LinkCfg, Name, NetCfg};
 use wrp_caldb::CalDb;
 use wrp_config::Network;
 use wrp_course::{ClockState, FibreState};

@@ -1,6 +1,6 @@
 //! The parts of a plant, and the sizes of their numbers.
 ghost use Rattle.std.specs.Prelude.{◌≡◌, ◌<◌, ◌≤◌, length, slice_get, Some, IfSome, option_map};
-ghost use Rattle.wrp_base.specs.Network.{HasRanges, HasNodeRanges, HasLinkRanges, node_count};
+ghost use Rattle.wrp_network.specs.Network.{HasRanges, HasNodeRanges, HasLinkRanges, node_count};
 ghost use Rattle.wrp_plant.specs.Plant.{EndIs, FitsDeparted, FitsPlant, FitsSpan, PlantIs};
 ghost use Rattle.wrp_flights.specs.Frames.{at};
 ghost use Rattle.wrp_course.specs.Setting.{Setting, end_at};
@@ -9,7 +9,8 @@ ghost use Rattle.wrp_course.specs.WorldAt.{WorldAt};
 
 use super::Plant;
 use crate::ends::{EndState, Span};
-use wrp_base::{LinkCfg, NetCfg, NodeCfg, Role, Tau};
+use wrp_base::{Role, Tau};
+use wrp_network::{LinkCfg, NetCfg, NodeCfg};
 use wrp_course::{ClockState, Place};
 use wrp_flights::Departed;
 

@@ -21,7 +21,8 @@ use super::Plant;
 use crate::checks::{shortest_tick, stands};
 use crate::premises::beat::beat_kept;
 use crate::premises::ticks::tick_early;
-use wrp_base::{LinkCfg, NetCfg, Tau, difference, sum};
+use wrp_base::{Tau, difference, sum};
+use wrp_network::{LinkCfg, NetCfg};
 use wrp_course::Breach;
 
 fn both(a: bool, b: bool) -> bool

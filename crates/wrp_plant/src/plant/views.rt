@@ -1,7 +1,7 @@
 //! What is asked of a plant.
 ghost use Rattle.std.specs.Prelude.{◌≡◌, ◌<◌, length, option_map, IfSome};
 ghost use Rattle.wrp_base.specs.Clock.{steps_of_period};
-ghost use Rattle.wrp_base.specs.Network.{other_of};
+ghost use Rattle.wrp_base.specs.Link.{other_of};
 ghost use Rattle.wrp_plant.specs.Flights.{end_to};
 ghost use Rattle.wrp_plant.specs.Plant.{DepartedIs, FitsPlant, MaybeIs, PlantIs};
 ghost use Rattle.wrp_course.specs.Setting.{Setting, end_at, end_of, entry_at, place_of};
@@ -10,7 +10,8 @@ ghost use Rattle.wrp_course.specs.WorldAt.{WorldAt, first_name, named_at};
 
 use super::Plant;
 use crate::checks::{longest_tick, shortest_tick};
-use wrp_base::{LinkCfg, Mark, Module, Role, Tau, sum};
+use wrp_base::{Mark, Module, Role, Tau, sum};
+use wrp_network::LinkCfg;
 use wrp_course::{Place, place_of};
 use wrp_flights::Departed;
 

@@ -1,12 +1,13 @@
 //! Which delays a joined link may have: premise 5.
 ghost use Rattle.std.specs.Prelude.{◌≡◌, pos, ◌*◌, ◌^◌, ◌≤◌, ◌≤ℤ◌, ◌+ℤ◌, ◌*ℤ◌, unsigned_abs, map};
-ghost use Rattle.wrp_base.specs.Network.{HasLinkRanges};
+ghost use Rattle.wrp_network.specs.Network.{HasLinkRanges};
 ghost use Rattle.wrp_course.specs.Checks.{told_of, only_where};
 ghost use Rattle.wrp_course.specs.Premises as premise;
 ghost use Rattle.wrp_plant.specs.Sizes.{IsDelay, IsTime};
 
 use crate::checks::{at_least, at_most, size};
-use wrp_base::{LinkCfg, Tau, difference, product, sum};
+use wrp_base::{Tau, difference, product, sum};
+use wrp_network::LinkCfg;
 use wrp_course::{Breach, FibreState};
 
 // The part of both ways that the way down takes, times `2^40`.

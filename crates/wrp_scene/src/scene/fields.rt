@@ -1,13 +1,15 @@
 //! The fields of a scenario line, by their places from 1.
 ghost use Rattle.std.specs.Prelude.{◌≡◌, ◌<◌, ◌≤◌, ◌^◌, IfOk, false, is_none, unsigned_abs};
 ghost use Rattle.csv.specs.Records.{fields_of};
-ghost use Rattle.wrp_base.specs.Network.{HasRanges, IsAmong, IsFromTo, link_above, node_count};
+ghost use Rattle.wrp_network.specs.Network.{HasRanges, link_above, node_count};
+ghost use Rattle.wrp_base.specs.Ranges.{IsAmong, IsFromTo};
 ghost use Rattle.wrp_scene.specs.Scenario.{IsFault, IsFaultKind, IsOffset, IsFree, IsSum, fibre_room, off_of_ns, tau_of_ms};
 ghost use Rattle.wrp_scene.specs.ScenarioLines.{time_at, sum_at, permille_at, ns_at, rate_at, lower_at, fault_kind, fault_at};
 
 use super::fault::{Fault, FaultKind};
 use csv::ByteRecord;
-use wrp_base::{NetCfg, Tau, TraceFault, product};
+use wrp_base::{Tau, TraceFault, product};
+use wrp_network::NetCfg;
 use wrp_config::link_above;
 use wrp_fields::{field, name_fault, number, number_at, number_fault};
 use wrp_names::{link_at, node_at};

@@ -1,12 +1,14 @@
 //! What a scenario says.
 ghost use Rattle.std.specs.Prelude.{◌≡◌, ◌≤◌, ◌<◌, ◌^◌, length, unsigned_abs};
-ghost use Rattle.wrp_base.specs.Network.{HasRanges, IsFromTo};
+ghost use Rattle.wrp_network.specs.Network.{HasRanges};
+ghost use Rattle.wrp_base.specs.Ranges.{IsFromTo};
 ghost use Rattle.wrp_scene.specs.Scenario.{IsSceneOf, IsOffset, IsFree, delta_ms, delta_sm, kappa_of, ms_of, sm_of, sum_of, offset_of, free_of};
 ghost use Rattle.wrp_course.specs.EventAt.{link_count};
 
 use super::Scene;
 use super::fault::Fault;
-use wrp_base::{NetCfg, Tau, difference, floor_div, product, sum};
+use wrp_base::{Tau, difference, floor_div, product, sum};
+use wrp_network::NetCfg;
 
 // Of both ways the way down takes this part, but for the asymmetry.
 const HALF: i128 = 1 << 39;

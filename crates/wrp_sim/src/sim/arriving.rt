@@ -1,6 +1,6 @@
 //! Frames that arrive.
 ghost use Rattle.std.specs.Prelude.{◌≡◌, ◌<◌, length, Some};
-ghost use Rattle.wrp_base.specs.declared.configuration.NetCfg.{NetCfg};
+ghost use Rattle.wrp_network.specs.declared.configuration.NetCfg.{NetCfg};
 ghost use Rattle.wrp_sim.specs.Draws.{next_state};
 ghost use Rattle.wrp_course.specs.Premises.{transition_of};
 ghost use Rattle.wrp_sim.specs.Numbers as number;

@@ -3,7 +3,7 @@ ghost use Rattle.std.specs.Prelude.{◌≡◌, false, fold, nat_lt, ◌<◌, ◌
 ghost use Rattle.std.specs.List.{find};
 ghost use Rattle.std.specs.Option.{option_map_or};
 ghost use Rattle.std.specs.Ordering.{int_eq};
-ghost use Rattle.wrp_base.specs.declared.configuration.NetCfg.{NetCfg};
+ghost use Rattle.wrp_network.specs.declared.configuration.NetCfg.{NetCfg};
 ghost use Rattle.wrp_sim.specs.Draws as draw;
 ghost use Rattle.wrp_sim.specs.Numbers as number;
 ghost use Rattle.wrp_sim.specs.Rules as rule;
@@ -19,7 +19,8 @@ ghost use Rattle.wrp_course.specs.WorldAt.{WorldAt};
 use super::pure::{is_at, is_within, stamp_at, thousands};
 use super::state::State;
 use crate::draws::Draws;
-use wrp_base::{LinkCfg, Role, Tau};
+use wrp_base::{Role, Tau};
+use wrp_network::LinkCfg;
 use wrp_course::Place;
 use wrp_world::{Event, World};
 

@@ -2,7 +2,7 @@
 ghost use Rattle.std.specs.Prelude.{◌≡◌, ◌<◌, option_map, length, slice_get, IfSome, Some};
 ghost use Rattle.std.specs.List as list;
 ghost use Rattle.std.specs.List.{AllByRecursion};
-ghost use Rattle.wrp_base.specs.declared.configuration.NetCfg.{NetCfg};
+ghost use Rattle.wrp_network.specs.declared.configuration.NetCfg.{NetCfg};
 ghost use Rattle.wrp_sim.specs.Rules as rule;
 ghost use Rattle.wrp_scene.specs.Scenario.{IsFault, IsFaultKind};
 ghost use Rattle.wrp_sim.specs.Sim.{FitsSim, Follows, Gave, SimIs, StaysFit, put};

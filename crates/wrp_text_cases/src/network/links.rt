@@ -3,7 +3,7 @@ ghost use Rattle.std.specs.Prelude.{◌<◌, length};
 
 use crate::telling::{push_none, push_points};
 use std::alloc::AllocError;
-use wrp_base::LinkCfg;
+use wrp_network::LinkCfg;
 use wrp_config::Network;
 
 // A number of a link.

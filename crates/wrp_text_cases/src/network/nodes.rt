@@ -2,12 +2,12 @@
 //! and `holdover` from the grandmaster; `held_motion`, how far it moves in HOLDOVER; and what its hop is made of, by the names of
 //! `HopNumbers`.
 ghost use Rattle.wrp_config.specs.Accepted.{IsAccepted};
-ghost use Rattle.wrp_base.specs.Network.{HasRanges, IsTree, node_count};
+ghost use Rattle.wrp_network.specs.Network.{HasRanges, IsTree, node_count};
 ghost use Rattle.wrp_bounds.specs.Hop.{IsInRange};
 ghost use Rattle.std.specs.Prelude.{◌<◌, length};
 
 use std::alloc::AllocError;
-use wrp_base::{NetCfg, NodeCfg};
+use wrp_network::{NetCfg, NodeCfg};
 use wrp_bounds::{HopNumbers, held_motion, holdover, hop, link_above, numbers_over, path};
 use wrp_config::Network;
 

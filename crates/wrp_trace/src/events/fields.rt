@@ -1,7 +1,7 @@
 //! The fields of an event line, by their places from 1, that an input line has not.
 ghost use Rattle.std.specs.Prelude.{◌≡◌, ◌<◌, ◌≤◌, ◌^◌, IfOk, unsigned_abs};
 ghost use Rattle.csv.specs.Records.{fields_of};
-ghost use Rattle.wrp_base.specs.Network.{IsFromTo};
+ghost use Rattle.wrp_base.specs.Ranges.{IsFromTo};
 ghost use Rattle.wrp_trace.specs.EventFields.{span_at, delay_at, offset_at};
 
 use csv::ByteRecord;

@@ -1,7 +1,7 @@
 //! The further fields of a `pass`, written where its changes stay: NODE=DRIFT and LINK=MS/SM.
 ghost use Rattle.std.specs.Prelude.{◌≡◌, ◌<◌, ◌≤◌, pos, IfSome, Some, length, map, drop, slice_set, true, false};
 ghost use Rattle.csv.specs.Records.{fields_of};
-ghost use Rattle.wrp_base.specs.Network.{node_count};
+ghost use Rattle.wrp_network.specs.Network.{node_count};
 ghost use Rattle.wrp_caldb.specs.Name.{same_name};
 ghost use Rattle.wrp_config.specs.Names.{node_named, link_named};
 ghost use Rattle.wrp_course.specs.EventAt.{link_count};
@@ -12,7 +12,8 @@ use super::changes::{change_in, move_in, place_of};
 use super::names::parts_at;
 use arrayvec::ArrayVec;
 use csv::ByteRecord;
-use wrp_base::{LinkCfg, Name, NetCfg, NodeCfg, TraceFault};
+use wrp_base::TraceFault;
+use wrp_network::{LinkCfg, Name, NetCfg, NodeCfg};
 use wrp_course::Event;
 use wrp_fields::{field, name_fault, number_fault};
 use wrp_names::{link_named, node_named};

@@ -5,7 +5,7 @@ ghost use Rattle.wrp_caldb.specs.Name.{is_name};
 ghost use Rattle.wrp_trace.specs.EventFields.{before, behind};
 
 use std::str;
-use wrp_base::Name;
+use wrp_network::Name;
 use wrp_caldb::{is_name, name_of};
 
 /// The text of a name; none where octets are no name.

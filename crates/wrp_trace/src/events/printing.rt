@@ -3,7 +3,7 @@ ghost use Rattle.std.specs.Prelude.{◌≡◌, ◌<◌, ◌++◌, ◌∷◌, [],
 ghost use Rattle.std.specs.Fmt.{decimal, signed_decimal};
 ghost use Rattle.std.specs.String.{string_bytes};
 ghost use Rattle.hex.specs.Hex.{encode_lower};
-ghost use Rattle.wrp_base.specs.Network.{name_at, node_count};
+ghost use Rattle.wrp_network.specs.Network.{name_at, node_count};
 ghost use Rattle.wrp_base.specs.Octets.{AreOctets};
 ghost use Rattle.wrp_config.specs.Accepted.{IsAccepted};
 ghost use Rattle.wrp_trace.specs.EventPrinting.{link_text, drift_words, drift_piece, drift_texts, move_words, move_piece, move_texts, swap_text, pass_texts, raw_texts, event_texts, event_text, further};
@@ -14,7 +14,8 @@ ghost use Rattle.wrp_course.specs.EventAt.{link_count, IsEventOf, FitsEvent};
 use super::swaps::Swaps;
 use crate::printing::{bits_text, octets_of, octets_text};
 use std::alloc::{AllocError, Global};
-use wrp_base::{Frame, LinkCfg, NetCfg, NodeCfg, Raw, Tau};
+use wrp_base::{Frame, Raw, Tau};
+use wrp_network::{LinkCfg, NetCfg, NodeCfg};
 use wrp_config::Network;
 use wrp_course::{Event, Swap};
 

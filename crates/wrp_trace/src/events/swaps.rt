@@ -9,7 +9,8 @@ ghost use Rattle.wrp_course.specs.EventAt.{IsSwap, AreSwaps};
 use super::names::{name_in, parts_at};
 use arrayvec::ArrayVec;
 use csv::ByteRecord;
-use wrp_base::{Name, TraceFault};
+use wrp_base::TraceFault;
+use wrp_network::Name;
 use wrp_course::Swap;
 use wrp_fields::{field, name_fault, natural, number_fault};
 

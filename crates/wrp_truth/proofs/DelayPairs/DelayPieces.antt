@@ -3,7 +3,7 @@ use Rattle.std.proofs.Common.{◌≡◌, ◌⊎◌, inl, inr, ◌∙◌, refl, a
 use Rattle.std.proofs.lemmas.Int.{ints}
 use Rattle.std.specs.List.{AllByRecursion}
 use Rattle.wrp_base.specs.declared.link.Role.TheVariants.{Slave}
-use Rattle.wrp_base.specs.declared.network.LinkCfg.{LinkCfg}
+use Rattle.wrp_network.specs.declared.network.LinkCfg.{LinkCfg}
 use Rattle.wrp_base.proofs.Lists.{heads, tails}
 use Rattle.wrp_bounds.specs.Times.{frame_life, gap_time, shortest_tick}
 use Rattle.wrp_tracking.specs.Chain.{DelayTellsWays, Good}

@@ -7,9 +7,10 @@ use Rattle.wrp_base.specs.declared.link.Role.{Role}
 use Rattle.wrp_base.specs.declared.link.Role.TheVariants.{Master, Slave}
 use Rattle.wrp_base.specs.declared.message.Body.{Body}
 use Rattle.wrp_base.specs.declared.message.PtpMsg.{PtpMsg}
-use Rattle.wrp_base.specs.declared.network.LinkCfg.{LinkCfg}
+use Rattle.wrp_network.specs.declared.network.LinkCfg.{LinkCfg}
 use Rattle.wrp_base.specs.declared.time.Raw.{Raw}
-use Rattle.wrp_base.specs.Network.{End, other_of}
+use Rattle.wrp_network.specs.Network.{End}
+use Rattle.wrp_base.specs.Link.{other_of}
 use Rattle.wrp_frame.specs.declared.fault.FrameFault.{FrameFault}
 use Rattle.wrp_frame.specs.SentOctets.{octets_of}
 use Rattle.wrp_node.specs.declared.interface.Input.{Input}

@@ -9,8 +9,9 @@ use Rattle.wrp_base.specs.declared.measurement.ChainNews.TheVariants.{Started}
 use Rattle.wrp_base.specs.declared.message.Body.{Body}
 use Rattle.wrp_base.specs.declared.message.Body.TheVariants.{Sync, DelayReq, FollowUp, DelayResp, Announce, Signal}
 use Rattle.wrp_base.specs.declared.message.PtpMsg.{PtpMsg}
-use Rattle.wrp_base.specs.declared.network.LinkCfg.{LinkCfg}
-use Rattle.wrp_base.specs.Network.{End, other_of}
+use Rattle.wrp_network.specs.declared.network.LinkCfg.{LinkCfg}
+use Rattle.wrp_network.specs.Network.{End}
+use Rattle.wrp_base.specs.Link.{other_of}
 use Rattle.wrp_base.proofs.Lists.{append_assoc}
 use Rattle.wrp_exch.specs.declared.delay.DelayPair.{DelayPair}
 use Rattle.wrp_exch.specs.declared.delay.Sent.{Sent}

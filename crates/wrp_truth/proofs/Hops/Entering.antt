@@ -12,10 +12,11 @@ use Rattle.wrp_base.specs.declared.message.Body.{Body}
 use Rattle.wrp_base.specs.declared.message.Body.TheVariants.{Sync, DelayReq, FollowUp, DelayResp, Announce, Signal}
 use Rattle.wrp_base.specs.declared.message.Head.{Head}
 use Rattle.wrp_base.specs.declared.message.PtpMsg.{PtpMsg}
-use Rattle.wrp_base.specs.declared.network.LinkCfg.{LinkCfg}
+use Rattle.wrp_network.specs.declared.network.LinkCfg.{LinkCfg}
 use Rattle.wrp_base.specs.declared.time.Raw.{Raw}
 use Rattle.wrp_base.specs.declared.time.Stamp.{Stamp}
-use Rattle.wrp_base.specs.Network.{End, link_above, other_of}
+use Rattle.wrp_network.specs.Network.{End, link_above}
+use Rattle.wrp_base.specs.Link.{other_of}
 use Rattle.wrp_base.proofs.Naturals.{eq_self}
 use Rattle.wrp_data.specs.declared.reason.Reason.{Reason}
 use Rattle.wrp_frame.specs.declared.fault.FrameFault.{FrameFault}

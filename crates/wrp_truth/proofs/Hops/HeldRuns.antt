@@ -6,8 +6,8 @@ use Rattle.std.proofs.Math.Nat.{mul-le-mul_right}
 use Rattle.std.proofs.lemmas.Bool.{cases_Bool, false≢true}
 use Rattle.wrp_base.specs.declared.link.ServoState.TheVariants.{Holdover}
 use Rattle.wrp_base.specs.declared.message.PtpMsg.{PtpMsg}
-use Rattle.wrp_base.specs.declared.network.LinkCfg.{LinkCfg}
-use Rattle.wrp_base.specs.Network.{link_above, node_count}
+use Rattle.wrp_network.specs.declared.network.LinkCfg.{LinkCfg}
+use Rattle.wrp_network.specs.Network.{link_above, node_count}
 use Rattle.wrp_base.proofs.Naturals.{nat_le_self}
 use Rattle.wrp_bounds.specs.Times.{longest_tick, shortest_tick, frame_life}
 use Rattle.wrp_frame.specs.declared.fault.FrameFault.{FrameFault}

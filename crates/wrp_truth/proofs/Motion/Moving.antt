@@ -12,8 +12,8 @@ use Rattle.wrp_base.specs.declared.link.Role.TheVariants.{Master, Slave}
 use Rattle.wrp_base.specs.declared.link.ServoState.{ServoState}
 use Rattle.wrp_base.specs.declared.link.ServoState.TheVariants.{Track, Holdover}
 use Rattle.wrp_base.specs.declared.message.PtpMsg.{PtpMsg}
-use Rattle.wrp_base.specs.declared.network.LinkCfg.{LinkCfg}
-use Rattle.wrp_base.specs.Network.{link_above, node_count}
+use Rattle.wrp_network.specs.declared.network.LinkCfg.{LinkCfg}
+use Rattle.wrp_network.specs.Network.{link_above, node_count}
 use Rattle.wrp_base.proofs.Naturals.{nat_le_self}
 use Rattle.wrp_frame.specs.declared.fault.FrameFault.{FrameFault}
 use Rattle.wrp_node.specs.declared.interface.NodeSet.{NodeSet}

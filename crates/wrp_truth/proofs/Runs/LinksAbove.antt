@@ -4,8 +4,8 @@ use Rattle.std.proofs.lemmas.Bool.{eqb-true}
 use Rattle.std.specs.List.{find}
 use Rattle.std.specs.Prelude.{slice_get}
 use Rattle.std.proofs.lemmas.Option.{none-some, same_Some}
-use Rattle.wrp_base.specs.declared.network.LinkCfg.{LinkCfg}
-use Rattle.wrp_base.specs.Network.{IsTree, link_above}
+use Rattle.wrp_network.specs.declared.network.LinkCfg.{LinkCfg}
+use Rattle.wrp_network.specs.Network.{IsTree, link_above}
 use Rattle.wrp_base.proofs.Booleans.{not_both}
 use Rattle.wrp_base.proofs.Naturals.{eq_self}
 use Rattle.wrp_course.specs.Runs.{IsNetwork}

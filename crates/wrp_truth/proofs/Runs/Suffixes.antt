@@ -1,6 +1,6 @@
 -- Parts of a run: its older events are a run, and what held at each event of a part.
 use Rattle.std.proofs.Common.{◌≡◌, refl, ap, ◌∙◌, ℕ, ◌+◌, ℤ, List, [], ◌∷◌, ◌++◌, length, arith, ◌≤◌}
-use Rattle.wrp_base.specs.declared.configuration.NetCfg.{NetCfg}
+use Rattle.wrp_network.specs.declared.configuration.NetCfg.{NetCfg}
 use Rattle.wrp_course.specs.Given.{Given, given_by, gives, gives_all}
 use Rattle.wrp_course.specs.Moved.{moved}
 use Rattle.wrp_course.specs.Run.{AllAccepted, Happened, world_after}

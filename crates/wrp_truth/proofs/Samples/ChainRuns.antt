@@ -8,7 +8,7 @@ use Rattle.std.proofs.Math.Nat.{mul-le-mul_right}
 use Rattle.std.specs.Option.{option_map_or}
 use Rattle.wrp_base.specs.declared.link.Role.TheVariants.{Master}
 use Rattle.wrp_base.specs.declared.message.PtpMsg.{PtpMsg}
-use Rattle.wrp_base.specs.declared.network.LinkCfg.{LinkCfg}
+use Rattle.wrp_network.specs.declared.network.LinkCfg.{LinkCfg}
 use Rattle.wrp_base.specs.Circle.{distance_round}
 use Rattle.wrp_base.specs.Clock.{period_of, step_of as tag_step}
 use Rattle.wrp_base.proofs.Lists.{first_is}

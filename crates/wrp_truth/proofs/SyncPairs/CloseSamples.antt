@@ -1,7 +1,7 @@
 -- The good samples of a chain came at most `gap + 1` longest ticks apart.
 use Rattle.std.proofs.Common.{◌≡◌, inr, ◌∙◌, refl, ap, ap₂, sym, subst, ℕ, ℤ, pos, ◌+ℤ◌, ◌≤ℤ◌, List, [], ◌∷◌, ◌++◌, length, Option, None, Some, option_to_list, arith}
 use Rattle.std.proofs.lemmas.Int.{ints}
-use Rattle.wrp_base.specs.declared.network.LinkCfg.{LinkCfg}
+use Rattle.wrp_network.specs.declared.network.LinkCfg.{LinkCfg}
 use Rattle.wrp_base.proofs.Lists.{head_and_tail}
 use Rattle.wrp_bounds.specs.Bounds.{numbers_of}
 use Rattle.wrp_bounds.specs.declared.numbers.HopNumbers.{HopNumbers}

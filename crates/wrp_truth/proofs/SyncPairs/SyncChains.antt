@@ -5,7 +5,7 @@ use Rattle.std.proofs.lemmas.Bool.Decides.{eqb_tells}
 use Rattle.std.specs.List.{AllByRecursion}
 use Rattle.std.proofs.lemmas.Option.{none-some, same_Some}
 use Rattle.wrp_base.specs.declared.message.PtpMsg.{PtpMsg}
-use Rattle.wrp_base.specs.declared.network.LinkCfg.{LinkCfg}
+use Rattle.wrp_network.specs.declared.network.LinkCfg.{LinkCfg}
 use Rattle.wrp_base.proofs.Lists.{append_assoc, head_and_tail}
 use Rattle.wrp_base.proofs.Naturals.{le_one_more, nat_le_self, nat_le_trans}
 use Rattle.wrp_frame.specs.declared.fault.FrameFault.{FrameFault}

@@ -2,7 +2,7 @@
 use Rattle.std.proofs.Common.{◌≡◌, ◌∙◌, refl, sym, subst, ℕ, true, List, [], ◌∷◌, ◌++◌, Some}
 use Rattle.wrp_base.specs.declared.link.LinkState.TheVariants.{LinkOn}
 use Rattle.wrp_base.specs.declared.link.Role.TheVariants.{Master}
-use Rattle.wrp_base.specs.declared.network.LinkCfg.{LinkCfg}
+use Rattle.wrp_network.specs.declared.network.LinkCfg.{LinkCfg}
 use Rattle.wrp_bounds.specs.Times.{frame_life, shortest_tick}
 use Rattle.wrp_handshake.specs.Ends.{BothPorts}
 use Rattle.wrp_handshake.specs.Laws.{SlaveOnWithItsMaster}

@@ -5,7 +5,7 @@ use Rattle.wrp_base.specs.declared.link.Role.TheVariants.{Master}
 use Rattle.wrp_base.specs.declared.message.Body.{Body}
 use Rattle.wrp_base.specs.declared.message.Body.TheVariants.{FollowUp}
 use Rattle.wrp_base.specs.declared.message.PtpMsg.{PtpMsg}
-use Rattle.wrp_base.specs.declared.network.LinkCfg.{LinkCfg}
+use Rattle.wrp_network.specs.declared.network.LinkCfg.{LinkCfg}
 use Rattle.wrp_base.specs.declared.time.Ts.{Ts}
 use Rattle.wrp_base.specs.Closeness.{IsWithin}
 use Rattle.wrp_base.proofs.Integers.{int_le_trans}

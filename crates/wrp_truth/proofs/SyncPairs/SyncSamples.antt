@@ -4,7 +4,7 @@ use Rattle.std.proofs.lemmas.Bool.Decides.{eqb_tells}
 use Rattle.std.proofs.lemmas.Bool.{false≢true}
 use Rattle.wrp_base.specs.declared.link.Role.TheVariants.{Slave}
 use Rattle.wrp_base.specs.declared.message.PtpMsg.{PtpMsg}
-use Rattle.wrp_base.specs.declared.network.LinkCfg.{LinkCfg}
+use Rattle.wrp_network.specs.declared.network.LinkCfg.{LinkCfg}
 use Rattle.wrp_base.proofs.Naturals.{eq_self}
 use Rattle.wrp_exch.specs.declared.ring.GoodSample.{GoodSample}
 use Rattle.wrp_exch.specs.Call.{Call as Piece, CallStart, CallClear, CallSample as SamplePiece, CallSync, CallFollowUp, CallReqOut, CallReqSent, CallResp}

@@ -1,7 +1,7 @@
 //! What one asks of a world who makes its events.
 ghost use Rattle.std.specs.Prelude.{◌≡◌, ◌<◌, ◌≤◌, ◌^◌, ◌-ℤ◌, length, false, option_map, slice_get, unsigned_abs, IfSome, Some};
 ghost use Rattle.wrp_base.specs.Clock.{steps_of_period};
-ghost use Rattle.wrp_base.specs.Network.{HasLinkRanges, HasNodeRanges};
+ghost use Rattle.wrp_network.specs.Network.{HasLinkRanges, HasNodeRanges};
 ghost use Rattle.wrp_node.specs.NodeAt.{dac_of};
 ghost use Rattle.wrp_plant.specs.Flights.{end_to};
 ghost use Rattle.wrp_plant.specs.PutOut.{NoneIsPutOut, first_put_out, puts_out};
@@ -11,7 +11,8 @@ ghost use Rattle.wrp_course.specs.WorldAt.{WorldAt, first_name, has_carrier, rea
 ghost use Rattle.wrp_world.specs.StandsFor.{IsValid, StandsFor, Tells, time_of};
 
 use super::World;
-use wrp_base::{LinkCfg, Module, NodeCfg, Tau};
+use wrp_base::{Module, Tau};
+use wrp_network::{LinkCfg, NodeCfg};
 use wrp_course::{Place, place_of};
 
 impl<F: Fn(i64) -> i64> World<F> {

@@ -1,6 +1,6 @@
 //! A world before any event.
 ghost use Rattle.std.specs.Prelude.{◌≡◌, ◌<◌, [], IfOk, length};
-ghost use Rattle.wrp_base.specs.Network.{node_count};
+ghost use Rattle.wrp_network.specs.Network.{node_count};
 ghost use Rattle.wrp_config.specs.Accepted.{IsAccepted};
 ghost use Rattle.wrp_node.specs.Control.{law_in};
 ghost use Rattle.wrp_node.specs.New.{node_setting_of};

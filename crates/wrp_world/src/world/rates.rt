@@ -2,7 +2,7 @@
 ghost use Rattle.std.specs.Prelude.{◌≡◌, ◌<◌, ◌≤◌, length, flat_map, not, if◌then◌else◌, IfSome, None, Some, Result};
 ghost use Rattle.std.specs.Option.{is_some};
 ghost use Rattle.wrp_base.specs.declared.message.PtpMsg.{PtpMsg};
-ghost use Rattle.wrp_base.specs.Network.{link_above};
+ghost use Rattle.wrp_network.specs.Network.{link_above};
 ghost use Rattle.wrp_servo.specs.Sampling.{is_holdover};
 ghost use Rattle.wrp_frame.specs.declared.fault.FrameFault.{FrameFault};
 ghost use Rattle.wrp_course.specs.Checks.{told_of};
@@ -17,7 +17,8 @@ ghost use Rattle.wrp_course.specs.WorldAt.{WorldAt};
 
 use super::World;
 use arrayvec::ArrayVec;
-use wrp_base::{NodeCfg, ServoState};
+use wrp_base::ServoState;
+use wrp_network::NodeCfg;
 use wrp_course::Breach;
 use wrp_plant::rate_kept;
 

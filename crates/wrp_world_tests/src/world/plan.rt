@@ -5,7 +5,8 @@ use super::handshake::Handshake;
 use super::networks::{DOWN, ERROR, MS, SM};
 use super::seen::{NodeSeen, Seen};
 use arrayvec::ArrayVec;
-use wrp_base::{Name, ServoState, Tau};
+use wrp_base::{ServoState, Tau};
+use wrp_network::Name;
 use wrp_world::{Event, Swap};
 
 /// What a run is for.

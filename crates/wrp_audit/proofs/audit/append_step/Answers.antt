@@ -2,7 +2,7 @@
 use Rattle.std.proofs.Common.{◌∙◌, ap, rules}
 use Rattle.std.proofs.lemmas.Int.{to_z-of_z}
 use Rattle.std.proofs.lemmas.Result.{IfOk-weaker}
-use Rattle.wrp_base.specs.Network.{name_at}
+use Rattle.wrp_network.specs.Network.{name_at}
 use Rattle.wrp_config.specs.declared.network.Network.{Network}
 use Rattle.wrp_audit.proofs.AuditSteps.{step_text}
 use Rattle.wrp_network_world.proofs.BoundLemmas.{bound_at}

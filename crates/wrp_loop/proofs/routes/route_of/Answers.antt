@@ -1,6 +1,6 @@
 -- The way of a frame that flies.
 use Rattle.std.proofs.Common.{◌∙◌, ap, sym, slice_get, option_map}
-use Rattle.wrp_base.specs.declared.network.LinkCfg.{LinkCfg}
+use Rattle.wrp_network.specs.declared.network.LinkCfg.{LinkCfg}
 use Rattle.wrp_config.specs.declared.network.Network.{Network}
 use Rattle.wrp_course.specs.declared.place.Place.{Place}
 use Rattle.wrp_course.specs.Setting.{end_of}

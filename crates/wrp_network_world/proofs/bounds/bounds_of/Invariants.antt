@@ -1,6 +1,6 @@
 -- Each node before this one has its bound.
 use Rattle.std.proofs.Common.{◌≡◌, ◌<◌, ◌≤◌, ◌-◌, ◌^◌, length, pos}
-use Rattle.wrp_base.specs.Network.{node_count}
+use Rattle.wrp_network.specs.Network.{node_count}
 use Rattle.wrp_bounds.specs.Bounds.{path_of}
 use Rattle.wrp_plant.specs.Plant.{Each}
 use Rattle.wrp_network_world.proofs.bounds.bounds_of.Given as goal

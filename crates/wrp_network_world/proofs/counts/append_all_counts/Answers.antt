@@ -1,6 +1,6 @@
 -- Each node has its lines.
 use Rattle.std.proofs.Common.{◌∙◌, ◌<◌, ap, arith}
-use Rattle.wrp_base.specs.Network.{node_count}
+use Rattle.wrp_network.specs.Network.{node_count}
 use Rattle.wrp_config.specs.declared.network.Network.{Network}
 use Rattle.wrp_network_world.proofs.NodeCounts.{all_nodes, node_less, no_node_less}
 use Rattle.wrp_network_world.proofs.counts.append_all_counts.Goals as goal

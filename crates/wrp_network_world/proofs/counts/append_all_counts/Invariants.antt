@@ -1,6 +1,6 @@
 -- The counters of the nodes from this one on are lacking.
 use Rattle.std.proofs.Common.{◌≤◌, ◌-◌}
-use Rattle.wrp_base.specs.Network.{node_count}
+use Rattle.wrp_network.specs.Network.{node_count}
 use Rattle.wrp_course.specs.Setting.{Setting}
 use Rattle.wrp_world.specs.StandsFor.{StandsFor}
 use Rattle.wrp_course.specs.WorldAt.{WorldAt}

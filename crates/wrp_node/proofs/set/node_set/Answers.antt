@@ -2,8 +2,8 @@
 use Rattle.std.proofs.Common.{◌≡◌, refl, Option, None, Some, lit<, ap, sym, subst, ◌∙◌, ◌≤◌, ℕ, List, length}
 use Rattle.std.specs.List.{filter}
 use Rattle.std.specs.Option.{is_some, option_map}
-use Rattle.wrp_base.specs.declared.network.LinkCfg.{LinkCfg}
-use Rattle.wrp_base.specs.Network.{HasDepth, link_above}
+use Rattle.wrp_network.specs.declared.network.LinkCfg.{LinkCfg}
+use Rattle.wrp_network.specs.Network.{HasDepth, link_above}
 use Rattle.wrp_data.specs.declared.datasets.DefaultDs.{DefaultDs}
 use Rattle.wrp_data.specs.declared.datasets.PortDs.{PortDs}
 use Rattle.wrp_link.specs.declared.interface.LinkSet.{LinkSet}

@@ -1,7 +1,7 @@
 -- There is room for the ports at each link.
 use Rattle.std.proofs.Common.{◌≡◌, ◌<◌, ap, sym, ◌∙◌, List, length, get_or, arith}
 use Rattle.std.proofs.lemmas.List.Folds.{length-flat_map-take}
-use Rattle.wrp_base.specs.declared.network.LinkCfg.{LinkCfg}
+use Rattle.wrp_network.specs.declared.network.LinkCfg.{LinkCfg}
 use Rattle.wrp_node.specs.Set.{ports_at}
 use Rattle.wrp_node.proofs.OwnPorts.{few_ports}
 use Rattle.wrp_node.proofs.set.ports_of.Goals as goal

@@ -1,6 +1,7 @@
 //! Carriers that go and come at the ends of a link.
 ghost use Rattle.std.specs.Prelude.{◌≡◌, ◌<◌, length, true, Some, OnOk};
-ghost use Rattle.wrp_base.specs.Network.{node_count, other_of};
+ghost use Rattle.wrp_network.specs.Network.{node_count};
+ghost use Rattle.wrp_base.specs.Link.{other_of};
 ghost use Rattle.wrp_course.specs.Setting.{has_port};
 ghost use Rattle.wrp_course.specs.Given.{goes_at, goes_from};
 ghost use Rattle.wrp_plant.specs.Giving.{Adds, comes_over, comes_over_both};
@@ -12,7 +13,8 @@ use super::super::Plant;
 use super::listing::{Gift, add};
 use crate::plant::views::port_of;
 use std::alloc::AllocError;
-use wrp_base::{LinkCfg, Module, Name, Role};
+use wrp_base::{Module, Role};
+use wrp_network::{LinkCfg, Name};
 use wrp_course::{NodeOut, Place};
 use wrp_node::Input;
 

@@ -2,9 +2,9 @@
 ghost use Rattle.std.specs.Prelude.{◌≡◌, ◌==◌, ◌||◌, ◌<◌, ◌∷◌, [], ℕ, length, pos, true, option_map, IfSome};
 ghost use Rattle.std.specs.List.{AllByRecursion, AllZip};
 ghost use Rattle.std.specs.Option.{option_map_or};
-ghost use Rattle.wrp_base.specs.declared.configuration.NetCfg.{NetCfg as Net};
+ghost use Rattle.wrp_network.specs.declared.configuration.NetCfg.{NetCfg as Net};
 ghost use Rattle.wrp_base.specs.declared.message.PtpMsg.{PtpMsg as Message};
-ghost use Rattle.wrp_base.specs.Network.{node_count};
+ghost use Rattle.wrp_network.specs.Network.{node_count};
 ghost use Rattle.wrp_frame.specs.Grammar.{Spells};
 ghost use Rattle.wrp_port.specs.PortAt.{IsStamp};
 ghost use Rattle.wrp_course.specs.declared.event.Event.TheVariants as event;

@@ -1,6 +1,6 @@
 //! The one input of an event that gives one at most.
 ghost use Rattle.std.specs.Prelude.{◌≡◌, ◌<◌, ◌≤◌, ◌+◌, ◌^◌, length};
-ghost use Rattle.wrp_base.specs.Network.{node_count};
+ghost use Rattle.wrp_network.specs.Network.{node_count};
 ghost use Rattle.wrp_course.specs.declared.event.Event.TheVariants as event;
 ghost use Rattle.wrp_course.specs.EventAt.{IsRaw};
 ghost use Rattle.wrp_plant.specs.Giving.{Gives, entries_of};

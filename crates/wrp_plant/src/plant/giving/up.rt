@@ -16,7 +16,7 @@ use super::listing::{Gift, add};
 use crate::plant::moves::swaps::name_with;
 use arrayvec::ArrayVec;
 use std::alloc::AllocError;
-use wrp_base::Name;
+use wrp_network::Name;
 use wrp_course::{NodeOut, Place, Swap, place_of};
 use wrp_node::Input;
 

@@ -1,7 +1,7 @@
 //! Frames that arrive.
 ghost use Rattle.std.specs.Prelude.{◌≡◌, ◌<◌, ◌+◌, ◌^◌, ℕ, length, true, option_map, IfSome};
 ghost use Rattle.std.specs.Option.{option_map_or};
-ghost use Rattle.wrp_base.specs.Network.{other_of};
+ghost use Rattle.wrp_base.specs.Link.{other_of};
 ghost use Rattle.wrp_course.specs.declared.event.Event.TheVariants as event;
 ghost use Rattle.wrp_course.specs.EventAt.{IsRaw};
 ghost use Rattle.wrp_flights.specs.Frames.{Turned, at};

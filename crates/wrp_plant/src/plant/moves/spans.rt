@@ -7,7 +7,8 @@ ghost use Rattle.wrp_plant.specs.Sizes.{IsDelay};
 ghost use Rattle.wrp_plant.specs.Tried.{moved_fibre};
 
 use crate::ends::{EndState, Span};
-use wrp_base::{LinkCfg, NetCfg, Tau, sum};
+use wrp_base::{Tau, sum};
+use wrp_network::{LinkCfg, NetCfg};
 use wrp_course::FibreState;
 
 // How far the delay of a fibre moves down.

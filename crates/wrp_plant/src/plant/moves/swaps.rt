@@ -5,7 +5,7 @@ ghost use Rattle.wrp_course.specs.Moved.{swap_at};
 ghost use Rattle.wrp_plant.specs.Moves.{Put, Swapped, SwapsAt, SwapsIn, SwapsSpan, EachBecame, Where};
 
 use crate::ends::{EndState, Span};
-use wrp_base::{LinkCfg, Name, NetCfg};
+use wrp_network::{LinkCfg, Name, NetCfg};
 use wrp_course::Swap;
 
 // The same name.

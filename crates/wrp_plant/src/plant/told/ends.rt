@@ -10,7 +10,8 @@ use super::News;
 use super::reads::{is_same, state_in};
 use crate::ends::{EndState, PutOut, Span};
 use crate::plant::moves::spans::is_end_of;
-use wrp_base::{Frame, LinkCfg, LinkState, Mark, NetCfg, Tau, WrMsg};
+use wrp_base::{Frame, LinkState, Mark, Tau, WrMsg};
+use wrp_network::{LinkCfg, NetCfg};
 use wrp_node::Output;
 
 /// The same octets.

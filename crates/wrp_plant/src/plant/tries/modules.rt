@@ -3,7 +3,7 @@ ghost use Rattle.std.specs.Prelude.{◌≡◌, ◌<◌, ◌≤◌, ◌^◌, ◌=
 ghost use Rattle.std.specs.Option.{is_some, option_map_or};
 ghost use Rattle.wrp_base.specs.Clock.{steps_of_period};
 ghost use Rattle.wrp_base.specs.declared.message.PtpMsg.{PtpMsg};
-ghost use Rattle.wrp_base.specs.Network.{link_above as link_over};
+ghost use Rattle.wrp_network.specs.Network.{link_above as link_over};
 ghost use Rattle.wrp_frame.specs.declared.fault.FrameFault.{FrameFault};
 ghost use Rattle.wrp_course.specs.Checks.{told_of};
 ghost use Rattle.wrp_course.specs.Checks as spec;
@@ -18,7 +18,8 @@ use crate::checks::stands;
 use crate::premises::modules::module_kept;
 use crate::premises::rates::true_at_top;
 use arrayvec::ArrayVec;
-use wrp_base::{LinkCfg, Module, NetCfg, Role, Tau};
+use wrp_base::{Module, Role, Tau};
+use wrp_network::{LinkCfg, NetCfg};
 use wrp_config::link_above;
 use wrp_course::{Breach, Place, Swap, other_of, place_of};
 

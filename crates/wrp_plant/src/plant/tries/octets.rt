@@ -11,7 +11,8 @@ ghost use Rattle.wrp_course.specs.WorldAt.{WorldAt};
 
 use super::super::Plant;
 use crate::checks::stands;
-use wrp_base::{Frame, LinkCfg, PortIdentity, PtpMsg, Role};
+use wrp_base::{Frame, PortIdentity, PtpMsg, Role};
+use wrp_network::LinkCfg;
 use wrp_course::{Breach, Place, place_of};
 use wrp_frame::{FrameFault, decode};
 

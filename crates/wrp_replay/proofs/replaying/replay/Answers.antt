@@ -1,6 +1,6 @@
 -- What the closure answers, the law of the link above says.
 use Rattle.std.proofs.Common.{◌∙◌, ap, sym}
-use Rattle.wrp_base.specs.Network.{link_above}
+use Rattle.wrp_network.specs.Network.{link_above}
 use Rattle.wrp_law.specs.LinkLaw.{down_of}
 use Rattle.wrp_trace.specs.LineSetting.{line_setting_of}
 use Rattle.wrp_replay.proofs.GoingOn.{law_of_some, law_says}

@@ -1,6 +1,6 @@
 -- Each node before this one has its law, as its link's law says.
 use Rattle.std.proofs.Common.{◌≡◌, ◌≤◌, ◌-◌, length}
-use Rattle.wrp_base.specs.Network.{node_count}
+use Rattle.wrp_network.specs.Network.{node_count}
 use Rattle.wrp_plant.specs.Plant.{Each}
 use Rattle.wrp_network_world.specs.LawsFit.{IsMade}
 use Rattle.wrp_run.proofs.looped.run_on.Given as goal

@@ -1,6 +1,6 @@
 -- The replay of a node that is named, told of the whole input.
 use Rattle.std.proofs.Common.{◌∙◌, ◌<◌, [], refl, subst, sym}
-use Rattle.wrp_base.specs.Network.{node_count}
+use Rattle.wrp_network.specs.Network.{node_count}
 use Rattle.wrp_config.proofs.Lists.{found_place}
 use Rattle.wrp_trace.specs.LineSetting.{LineSetting, line_setting_of}
 use Rattle.wrp_config.specs.declared.network.Network.{Network}

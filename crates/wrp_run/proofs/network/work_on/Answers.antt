@@ -4,7 +4,7 @@ use Rattle.std.specs.Prelude.{slice_get}
 use Rattle.std.proofs.lemmas.Int.{to_z-of_z}
 use Rattle.std.specs.Int.{w64}
 use Rattle.std.proofs.KnownBytes.{Appends-nil, Consumes-nil}
-use Rattle.wrp_base.specs.Network.{node_count}
+use Rattle.wrp_network.specs.Network.{node_count}
 use Rattle.wrp_config.proofs.Bare.{count_bare}
 use Rattle.wrp_plant.proofs.EachLists.{each_none, each_push, length_push}
 use Rattle.wrp_records.proofs.Passed.{passes_nothing}

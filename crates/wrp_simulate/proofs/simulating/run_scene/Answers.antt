@@ -1,6 +1,6 @@
 -- The network and its simulator are new.
 use Rattle.std.proofs.Common.{◌∙◌, [], sym, ap, subst, arith}
-use Rattle.wrp_base.specs.Network.{node_count}
+use Rattle.wrp_network.specs.Network.{node_count}
 use Rattle.wrp_config.specs.declared.network.Network.{Network}
 use Rattle.wrp_sim.specs.Sim.{FitsSim}
 use Rattle.wrp_world.specs.StandsFor.{StandsFor}

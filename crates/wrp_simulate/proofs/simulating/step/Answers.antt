@@ -1,7 +1,7 @@
 -- The next event is accepted, and makes the run longer by one.
 use Rattle.std.proofs.Common.{rules, ◌≡◌, ◌<◌, ◌+◌, ◌∙◌, ℕ, true, false, List, ap, arith, refl, subst, sym}
 use Rattle.std.specs.List.{AllByRecursion}
-use Rattle.wrp_base.specs.Network.{node_count}
+use Rattle.wrp_network.specs.Network.{node_count}
 use Rattle.wrp_config.specs.declared.network.Network.{Network}
 use Rattle.wrp_course.specs.declared.node_out.NodeOut.{NodeOut}
 use Rattle.wrp_sim.specs.Sim.{FitsSim}

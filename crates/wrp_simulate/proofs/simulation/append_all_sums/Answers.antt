@@ -1,6 +1,6 @@
 -- Each node has its line.
 use Rattle.std.proofs.Common.{◌∙◌, ◌<◌, ap, arith}
-use Rattle.wrp_base.specs.Network.{node_count}
+use Rattle.wrp_network.specs.Network.{node_count}
 use Rattle.wrp_config.specs.declared.network.Network.{Network}
 use Rattle.wrp_simulate.specs.SimStands.{IsTotal}
 use Rattle.wrp_network_world.proofs.BoundLemmas.{bound_at}

@@ -1,7 +1,7 @@
 -- The lines are those of the step.
 use Rattle.std.proofs.Common.{◌∙◌, ap, rules}
 use Rattle.std.proofs.lemmas.Result.{IfOk-weaker}
-use Rattle.wrp_base.specs.Network.{name_at}
+use Rattle.wrp_network.specs.Network.{name_at}
 use Rattle.wrp_config.specs.declared.network.Network.{Network}
 use Rattle.wrp_network_world.proofs.BoundLemmas.{bound_at}
 use Rattle.wrp_simulate.proofs.SimLines.{printed_text}

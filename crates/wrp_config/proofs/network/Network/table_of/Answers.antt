@@ -1,7 +1,7 @@
 use Rattle.std.proofs.Common.{◌≡◌, ◌∙◌, ℕ, ◌<◌, List, Some, length, get_or, option_map, option_and_then, sym, ap, ap₂}
 use Rattle.std.proofs.lemmas.Option.{slice_get-get_or}
-use Rattle.wrp_base.specs.declared.configuration.NetCfg.{NetCfg}
-use Rattle.wrp_base.specs.declared.network.LinkCfg.{LinkCfg}
+use Rattle.wrp_network.specs.declared.configuration.NetCfg.{NetCfg}
+use Rattle.wrp_network.specs.declared.network.LinkCfg.{LinkCfg}
 use Rattle.wrp_caldb.specs.Database.{Database, TableAt, table_at}
 use Rattle.wrp_config.specs.Names.{table_of}
 use Rattle.wrp_config.proofs.network.Network.table_of.Goals as goal

@@ -1,6 +1,6 @@
 use Rattle.std.proofs.Common.{◌∙◌, ap, ◌==◌}
 use Rattle.std.specs.List.{position}
-use Rattle.wrp_base.specs.declared.configuration.NetCfg.{NetCfg}
+use Rattle.wrp_network.specs.declared.configuration.NetCfg.{NetCfg}
 use Rattle.wrp_plant.proofs.plant.Plant.above.Goals as goal
 
 pub returns-clause-value : goal.returns-clause-value

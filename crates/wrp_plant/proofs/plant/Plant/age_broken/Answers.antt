@@ -1,5 +1,5 @@
 use Rattle.std.proofs.Common.{◌∙◌, ap, ap₂, ◌∷◌, [], ◌-ℤ◌, pos, arith}
-use Rattle.wrp_base.specs.declared.configuration.NetCfg.{NetCfg}
+use Rattle.wrp_network.specs.declared.configuration.NetCfg.{NetCfg}
 use Rattle.wrp_bounds.specs.Times.{frame_life}
 use Rattle.wrp_course.specs.Checks.{told_of, at_most}
 use Rattle.wrp_plant.proofs.SignedReads.{read}

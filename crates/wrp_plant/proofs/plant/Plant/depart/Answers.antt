@@ -1,5 +1,5 @@
 use Rattle.std.proofs.Common.{◌∙◌, ap, ap₂, sym}
-use Rattle.wrp_base.specs.declared.configuration.NetCfg.{NetCfg}
+use Rattle.wrp_network.specs.declared.configuration.NetCfg.{NetCfg}
 use Rattle.wrp_course.specs.Setting.{place_among}
 use Rattle.wrp_plant.proofs.Departing.{none_departs_is, on_ok}
 use Rattle.wrp_plant.proofs.Fitting.{tick_fits}

@@ -1,5 +1,5 @@
 use Rattle.std.proofs.Common.{◌∙◌, sym, ap, Some, arith}
-use Rattle.wrp_base.specs.declared.configuration.NetCfg.{NetCfg}
+use Rattle.wrp_network.specs.declared.configuration.NetCfg.{NetCfg}
 use Rattle.wrp_course.specs.Setting.{place_among}
 use Rattle.wrp_plant.proofs.SignedReads.{read}
 use Rattle.wrp_plant.proofs.TriedFrames.{depart_told, departs_at}

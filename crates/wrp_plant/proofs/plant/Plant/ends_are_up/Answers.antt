@@ -1,5 +1,5 @@
 use Rattle.std.proofs.Common.{◌∙◌, sym, ap, slice_get}
-use Rattle.wrp_base.specs.declared.configuration.NetCfg.{NetCfg}
+use Rattle.wrp_network.specs.declared.configuration.NetCfg.{NetCfg}
 use Rattle.wrp_course.specs.Setting.{link_of}
 use Rattle.wrp_plant.proofs.Standing.{up_told}
 use Rattle.wrp_plant.proofs.plant.Plant.ends_are_up.Goals as goal

@@ -1,6 +1,6 @@
 use Rattle.std.proofs.Common.{◌≡◌, ◌∙◌, ap, sym, Some, [], slice_get}
 use Rattle.std.specs.Option.{option_map_or}
-use Rattle.wrp_base.specs.declared.configuration.NetCfg.{NetCfg}
+use Rattle.wrp_network.specs.declared.configuration.NetCfg.{NetCfg}
 use Rattle.wrp_course.specs.Setting.{entry_at, link_of}
 use Rattle.wrp_course.specs.WorldAt.{named_at}
 use Rattle.wrp_plant.proofs.plant.Plant.first_entry.Goals as goal

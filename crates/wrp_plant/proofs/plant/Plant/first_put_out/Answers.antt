@@ -1,5 +1,5 @@
 use Rattle.std.proofs.Common.{◌≡◌, ◌+◌, suc, ◌∙◌, ap, refl, length, arith}
-use Rattle.wrp_base.specs.declared.configuration.NetCfg.{NetCfg}
+use Rattle.wrp_network.specs.declared.configuration.NetCfg.{NetCfg}
 use Rattle.wrp_plant.specs.FirstPort.{first_among, with_link}
 use Rattle.wrp_plant.proofs.FirstPorts.{accepted_in, first_is}
 use Rattle.wrp_plant.proofs.plant.Plant.first_put_out.Goals as goal

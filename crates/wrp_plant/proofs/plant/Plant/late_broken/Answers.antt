@@ -1,7 +1,7 @@
 use Rattle.std.proofs.Common.{◌∙◌, refl, sym, ap, ap₂, pos, ◌+ℤ◌, length, map, slice_get, to_z, of_z, arith}
 use Rattle.std.proofs.lemmas.Int.{to_z-of_z}
 use Rattle.std.specs.Int.{w64, w128}
-use Rattle.wrp_base.specs.declared.configuration.NetCfg.{NetCfg}
+use Rattle.wrp_network.specs.declared.configuration.NetCfg.{NetCfg}
 use Rattle.wrp_bounds.specs.Times.{longest_tick}
 use Rattle.wrp_course.specs.Checks.{told_of}
 use Rattle.wrp_course.specs.Premises.{late_by}

@@ -1,5 +1,5 @@
 use Rattle.std.proofs.Common.{◌∙◌, sym, ap}
-use Rattle.wrp_base.specs.declared.configuration.NetCfg.{NetCfg}
+use Rattle.wrp_network.specs.declared.configuration.NetCfg.{NetCfg}
 use Rattle.wrp_course.specs.Setting.{entry_at, place_among}
 use Rattle.wrp_plant.proofs.TriedModules.{module_told, no_module_told}
 use Rattle.wrp_plant.proofs.plant.Plant.module_broken.Goals as goal

@@ -1,5 +1,5 @@
 use Rattle.std.proofs.Common.{◌∙◌, sym, ap, flat_map, length}
-use Rattle.wrp_base.specs.declared.configuration.NetCfg.{NetCfg}
+use Rattle.wrp_network.specs.declared.configuration.NetCfg.{NetCfg}
 use Rattle.wrp_course.specs.Checks.{told_of}
 use Rattle.wrp_course.specs.declared.event.Event.TheVariants.{Pass}
 use Rattle.wrp_course.specs.Moved.{moved}

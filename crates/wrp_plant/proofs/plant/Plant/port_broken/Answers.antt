@@ -1,6 +1,6 @@
 use Rattle.std.proofs.Common.{◌∙◌, ap, ◌∷◌, []}
 use Rattle.std.specs.Option.{is_some}
-use Rattle.wrp_base.specs.declared.configuration.NetCfg.{NetCfg}
+use Rattle.wrp_network.specs.declared.configuration.NetCfg.{NetCfg}
 use Rattle.wrp_course.specs.Checks.{told_of, needs}
 use Rattle.wrp_course.specs.Setting.{place_among}
 use Rattle.wrp_plant.proofs.plant.Plant.port_broken.Goals as goal

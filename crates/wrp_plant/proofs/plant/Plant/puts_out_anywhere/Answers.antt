@@ -1,6 +1,6 @@
 use Rattle.std.proofs.Common.{◌-◌, ◌+◌, ◌∙◌, ap, length, sym, ◌||◌}
 use Rattle.std.specs.List.{list_any}
-use Rattle.wrp_base.specs.declared.configuration.NetCfg.{NetCfg}
+use Rattle.wrp_network.specs.declared.configuration.NetCfg.{NetCfg}
 use Rattle.wrp_base.specs.declared.link.Role.TheVariants.{Master, Slave}
 use Rattle.wrp_course.specs.Setting.{from_on}
 use Rattle.wrp_plant.specs.PutOut.{puts_out_at}

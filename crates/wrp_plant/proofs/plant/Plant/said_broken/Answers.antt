@@ -1,6 +1,6 @@
 use Rattle.std.proofs.Common.{◌∙◌, sym, ap, slice_get}
-use Rattle.wrp_base.specs.declared.configuration.NetCfg.{NetCfg}
-use Rattle.wrp_base.specs.Network.{other_of}
+use Rattle.wrp_network.specs.declared.configuration.NetCfg.{NetCfg}
+use Rattle.wrp_base.specs.Link.{other_of}
 use Rattle.wrp_course.specs.declared.place.Place.{Place}
 use Rattle.wrp_plant.specs.Tried.{identity_at}
 use Rattle.wrp_plant.proofs.TriedOctets.{noise_told}

@@ -1,5 +1,5 @@
 use Rattle.std.proofs.Common.{◌∙◌, sym, ap, slice_get, ◌==◌}
-use Rattle.wrp_base.specs.declared.configuration.NetCfg.{NetCfg}
+use Rattle.wrp_network.specs.declared.configuration.NetCfg.{NetCfg}
 use Rattle.wrp_course.specs.declared.event.Event.TheVariants.{Up}
 use Rattle.wrp_course.specs.Moved.{moved, swap_at}
 use Rattle.wrp_plant.specs.Tried.{delays_after, delays_in}

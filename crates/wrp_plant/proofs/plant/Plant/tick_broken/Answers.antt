@@ -1,6 +1,6 @@
 use Rattle.std.proofs.Common.{◌∙◌, sym, ap, ap₂, ◌∷◌, [], pos, arith}
 use Rattle.std.specs.Option.{option_or}
-use Rattle.wrp_base.specs.declared.configuration.NetCfg.{NetCfg}
+use Rattle.wrp_network.specs.declared.configuration.NetCfg.{NetCfg}
 use Rattle.wrp_bounds.specs.Times.{shortest_tick}
 use Rattle.wrp_course.specs.Checks.{told_of, needs}
 use Rattle.wrp_course.specs.Premises.{tick_early}

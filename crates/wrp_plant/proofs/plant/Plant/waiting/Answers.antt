@@ -1,5 +1,5 @@
 use Rattle.std.proofs.Common.{◌≡◌, ◌∙◌, sym, ap, Some}
-use Rattle.wrp_base.specs.declared.configuration.NetCfg.{NetCfg}
+use Rattle.wrp_network.specs.declared.configuration.NetCfg.{NetCfg}
 use Rattle.wrp_course.specs.Setting.{place_among, place_of}
 use Rattle.wrp_course.specs.Moved.{waiting_at}
 use Rattle.wrp_course.specs.Views.{oldest_of}

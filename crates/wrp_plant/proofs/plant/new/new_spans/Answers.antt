@@ -1,6 +1,6 @@
 use Rattle.std.proofs.Common.{◌≡◌, ◌+◌, ◌∙◌, sym, subst, ap, length, slice_get, Some}
 use Rattle.std.proofs.lemmas.Option.{get_or_from_slice_get}
-use Rattle.wrp_base.specs.declared.network.LinkCfg.{LinkCfg}
+use Rattle.wrp_network.specs.declared.network.LinkCfg.{LinkCfg}
 use Rattle.wrp_plant.specs.New.{IsNewSpan, IsSpanOf}
 use Rattle.wrp_plant.specs.Plant.{Each}
 use Rattle.wrp_plant.proofs.EachLists.{each_push, length_push}

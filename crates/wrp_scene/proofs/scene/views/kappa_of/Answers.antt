@@ -3,7 +3,7 @@ use Rattle.std.proofs.Common.{◌∙◌, refl, sym, ap, ap₂, pos, length, ◌^
 use Rattle.std.specs.Prelude.{slice_get}
 use Rattle.std.specs.Option.{option_map_or}
 use Rattle.std.proofs.lemmas.Option.{slice_get_read}
-use Rattle.wrp_base.specs.Network.{IsLink}
+use Rattle.wrp_network.specs.Network.{IsLink}
 use Rattle.wrp_bounds.proofs.Counts.{read_of_size}
 use Rattle.wrp_scene.proofs.scene.views.kappa_of.Goals as goal
 

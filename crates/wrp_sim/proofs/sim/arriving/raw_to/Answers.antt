@@ -1,5 +1,5 @@
 use Rattle.std.proofs.Common.{◌∙◌, ap, sym, arith}
-use Rattle.wrp_base.specs.declared.configuration.NetCfg.{NetCfg}
+use Rattle.wrp_network.specs.declared.configuration.NetCfg.{NetCfg}
 use Rattle.wrp_config.specs.declared.network.Network.{Network}
 use Rattle.wrp_course.specs.Premises.{transition_of}
 use Rattle.wrp_plant.proofs.SignedReads.{read}

@@ -1,5 +1,5 @@
 use Rattle.std.proofs.Common.{◌≡◌, ◌∙◌, ap, sym, ℕ, ◌-◌, ◌+◌, fold, length, None, arith}
-use Rattle.wrp_base.specs.declared.configuration.NetCfg.{NetCfg}
+use Rattle.wrp_network.specs.declared.configuration.NetCfg.{NetCfg}
 use Rattle.wrp_config.specs.declared.network.Network.{Network}
 use Rattle.wrp_course.specs.Setting.{from_on}
 use Rattle.wrp_sim.specs.Departures.{departing_over}

@@ -1,7 +1,7 @@
 -- The name of one more link stands for it.
 use Rattle.std.proofs.Common.{◌≡◌, ◌∙◌, ℕ, ◌<◌, List, Some, ap, arith, get_or, length, subst, sym}
 use Rattle.std.proofs.lemmas.Option.{slice_get-get_or, slice_get_within}
-use Rattle.wrp_base.specs.declared.network.LinkCfg.{LinkCfg}
+use Rattle.wrp_network.specs.declared.network.LinkCfg.{LinkCfg}
 use Rattle.wrp_trace.specs.declared.events.marks.Named.TheVariants.{Link}
 use Rattle.wrp_trace.specs.Places.{StandsFor}
 use Rattle.wrp_trace.proofs.PlaceNames.{holds_of_more}

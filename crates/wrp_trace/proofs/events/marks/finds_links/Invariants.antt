@@ -1,6 +1,6 @@
 use Rattle.std.proofs.Common.{ℕ, ◌<◌}
-use Rattle.wrp_base.specs.declared.network.LinkCfg.{LinkCfg}
-use Rattle.wrp_base.specs.Network.{IsLink}
+use Rattle.wrp_network.specs.declared.network.LinkCfg.{LinkCfg}
+use Rattle.wrp_network.specs.Network.{IsLink}
 use Rattle.wrp_trace.specs.declared.events.marks.Named.TheVariants.{Link}
 use Rattle.wrp_trace.specs.Places.{StandsFor}
 use Rattle.wrp_trace.proofs.events.marks.finds_links.Given as goal

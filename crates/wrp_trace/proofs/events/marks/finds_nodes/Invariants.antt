@@ -1,6 +1,6 @@
 use Rattle.std.proofs.Common.{ℕ, ◌<◌}
-use Rattle.wrp_base.specs.declared.network.NodeCfg.{NodeCfg}
-use Rattle.wrp_base.specs.Network.{IsNode}
+use Rattle.wrp_network.specs.declared.network.NodeCfg.{NodeCfg}
+use Rattle.wrp_network.specs.Network.{IsNode}
 use Rattle.wrp_trace.specs.declared.events.marks.Named.TheVariants.{Node}
 use Rattle.wrp_trace.specs.Places.{StandsFor}
 use Rattle.wrp_trace.proofs.events.marks.finds_nodes.Given as goal

@@ -1,6 +1,6 @@
 -- The link has the name, which stands for it.
 use Rattle.std.proofs.Common.{◌∙◌, ◌<◌, List, ap, arith, get_or, length, sym}
-use Rattle.wrp_base.specs.declared.network.LinkCfg.{LinkCfg}
+use Rattle.wrp_network.specs.declared.network.LinkCfg.{LinkCfg}
 use Rattle.wrp_caldb.specs.Name.{same_name}
 use Rattle.wrp_trace.proofs.PlaceNames.{next_link_is}
 use Rattle.wrp_trace.proofs.events.marks.link_here.Goals as goal

@@ -3,7 +3,7 @@ use Rattle.std.proofs.lemmas.Int.{to_z-of_z}
 use Rattle.std.proofs.lemmas.List.{drop_more, append_assoc}
 use Rattle.std.specs.Int.{w64}
 use Rattle.std.specs.String.{string_bytes}
-use Rattle.wrp_base.specs.declared.network.NodeCfg.{NodeCfg}
+use Rattle.wrp_network.specs.declared.network.NodeCfg.{NodeCfg}
 use Rattle.wrp_trace.specs.EventPrinting.{further, drift_piece, drift_texts}
 use Rattle.wrp_trace.proofs.FurtherLemmas.{drift_step}
 use Rattle.wrp_trace.proofs.events.printing.add_drifts.Goals as goal

@@ -1,7 +1,7 @@
 use Rattle.std.proofs.Common.{◌≡◌, ◌∙◌, ℕ, ℤ, pos, ◌+◌, ◌<◌, ◌++◌, List, length, drop, get_or, refl, sym, ap, arith}
 use Rattle.std.proofs.lemmas.List.{drop_more, append_assoc}
 use Rattle.std.specs.String.{string_bytes}
-use Rattle.wrp_base.specs.declared.network.LinkCfg.{LinkCfg}
+use Rattle.wrp_network.specs.declared.network.LinkCfg.{LinkCfg}
 use Rattle.wrp_trace.specs.EventPrinting.{further, move_piece, move_texts}
 use Rattle.wrp_trace.proofs.FurtherLemmas.{move_step}
 use Rattle.wrp_trace.proofs.events.printing.add_moves.Goals as goal

@@ -1,5 +1,5 @@
 use Rattle.std.proofs.Common.{◌∙◌, ap}
-use Rattle.wrp_base.specs.declared.configuration.NetCfg.{NetCfg}
+use Rattle.wrp_network.specs.declared.configuration.NetCfg.{NetCfg}
 use Rattle.wrp_course.specs.Setting.{place_among}
 use Rattle.wrp_plant.specs.Plant.{PlantIs}
 use Rattle.wrp_world.proofs.Inside.{plant_is}

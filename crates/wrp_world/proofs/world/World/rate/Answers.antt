@@ -1,5 +1,5 @@
 use Rattle.std.proofs.Common.{◌∙◌, sym, ap, subst, ◌≤◌, false, slice_get, IfSome, None, if◌then◌else◌}
-use Rattle.wrp_base.specs.declared.configuration.NetCfg.{NetCfg}
+use Rattle.wrp_network.specs.declared.configuration.NetCfg.{NetCfg}
 use Rattle.wrp_node.specs.NodeAt.{locked_of, state_of}
 use Rattle.wrp_plant.specs.Plant.{PlantIs}
 use Rattle.wrp_course.specs.Setting.{node_setting_of}

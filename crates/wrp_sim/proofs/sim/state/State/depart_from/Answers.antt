@@ -3,7 +3,7 @@ use Rattle.std.proofs.Common.{rules}
 use Rattle.std.proofs.lemmas.Int.{to_z-of_z}
 use Rattle.std.specs.Int.{w128}
 use Rattle.std.specs.Option.{option_map_or}
-use Rattle.wrp_base.specs.declared.network.NodeCfg.{NodeCfg}
+use Rattle.wrp_network.specs.declared.network.NodeCfg.{NodeCfg}
 use Rattle.wrp_course.specs.declared.event.Event.TheVariants.{Depart}
 use Rattle.wrp_sim.specs.Draws.{next_state}
 use Rattle.wrp_sim.specs.Numbers.{drawn_stamp, thousands}

@@ -2,7 +2,7 @@
 use Rattle.std.proofs.Common.{◌∙◌, ap, ap₂, sym, subst, ℤ, pos, ◌*ℤ◌, ◌+ℤ◌, ◌≤◌, ◌^◌, unsigned_abs, fold, map, get_or, arith}
 use Rattle.std.proofs.lemmas.Int.{ints}
 use Rattle.std.specs.List.{AllByRecursion}
-use Rattle.wrp_base.specs.declared.configuration.NetCfg.{NetCfg}
+use Rattle.wrp_network.specs.declared.configuration.NetCfg.{NetCfg}
 use Rattle.wrp_base.specs.Clock.{second}
 use Rattle.wrp_config.specs.declared.network.Network.{Network}
 use Rattle.wrp_plant.proofs.SignedReads.{read}

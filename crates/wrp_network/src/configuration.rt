@@ -1,6 +1,6 @@
 //! The numbers of a whole network, as the table `[network]` of its file has them.
-use crate::Clock;
 use crate::network::{Links, Nodes};
+use wrp_base::Clock;
 
 /// A network: one number for each key of `[network]`, then the nodes and the links, and what the
 /// inequalities read of the listed modules. The ranges are this project's profile. `NetCfg::default()`

@@ -4,12 +4,11 @@ use Rattle.std.specs.Prelude.{ℕ, suc, zero, ℤ, pos, ◌≡◌, ◌⊎◌, �
 use Rattle.std.specs.List.{find, flat_map}
 use Rattle.std.specs.Option.{option_map_or}
 use Rattle.wrp_base.specs.declared.time.Clock.{Clock}
-use Rattle.wrp_base.specs.declared.configuration.NetCfg.{NetCfg}
-use Rattle.wrp_base.specs.declared.network.NodeCfg.{NodeCfg}
-use Rattle.wrp_base.specs.declared.network.LinkCfg.{LinkCfg}
-use Rattle.wrp_base.specs.declared.link.Role.{Role}
-use Rattle.wrp_base.specs.declared.link.Role.TheVariants.{Master, Slave}
+use Rattle.wrp_network.specs.declared.configuration.NetCfg.{NetCfg}
+use Rattle.wrp_network.specs.declared.network.NodeCfg.{NodeCfg}
+use Rattle.wrp_network.specs.declared.network.LinkCfg.{LinkCfg}
 use Rattle.wrp_base.specs.Clock.{step_of}
+use Rattle.wrp_base.specs.Ranges.{IsFromTo, IsAmong}
 
 -- how many nodes a network has
 abbrev pub node_count : NetCfg → ℕ
@@ -28,14 +27,6 @@ abbrev pub IsLink : NetCfg → ℕ → LinkCfg → Type 0
 IsLink net l link = slice_get net.links.items l ≡ Some link
 
 -- Ranges
-
--- a signed number from least to greatest
-abbrev pub IsFromTo : ℕ → ℕ → ℤ → Type 0
-IsFromTo least greatest z = (pos least ≤ℤ z) × (z ≤ℤ pos greatest)
-
--- an unsigned number from least to greatest
-abbrev pub IsAmong : ℕ → ℕ → ℕ → Type 0
-IsAmong least greatest n = (least ≤ n) × (n ≤ greatest)
 
 -- a wavelength in nm, where 0 stands for any
 abbrev pub IsWavelength : ℕ → Type 0
@@ -110,11 +101,6 @@ pub record End : Type 0 where
 abbrev pub ends_of : LinkCfg → List End
 ends_of link =
     record { node = link.upper; port = link.upper_port } ∷ (record { node = link.lower; port = link.lower_port } ∷ [])
-
--- the role of the port at the other end of a link
-abbrev pub other_of : Role → Role
-other_of Master = Slave
-other_of Slave = Master
 
 -- no port of a node stands at two ends of links
 abbrev pub NamesNoPortTwice : NetCfg → Type 0
