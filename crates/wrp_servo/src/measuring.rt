@@ -114,8 +114,8 @@ fn is_below_second(est: Tau) -> bool
 }
 
 impl Core {
-    /// The fixed delays of the link, in tau, by which a four is measured. None where no chain stands or
-    /// the link is off. The servo stays as it is.
+    /// The fixed delays of the link, in tau, by which a four is measured. None where there is no chain,
+    /// or the link is off. The servo stays as it is.
     pub fn deltas_in_chain(&self) -> Option<Deltas>
         ensures { result ≡ deltas_in_chain self.now }
     {
