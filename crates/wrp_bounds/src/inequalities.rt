@@ -15,8 +15,9 @@ use wrp_network::NetCfg;
 /// than there are sequenceIds.
 const IDS: u64 = 65_000;
 
-/// Tries the nine inequalities in their order, and answers the first that is broken, with both its
-/// sides. The third is tried at each node that has a parent, in file order.
+/// Tries the nine inequalities in their order. The error is the first that is broken, with both its
+/// sides; it is Ok exactly where all of them hold. The third is tried at each node that has a parent,
+/// in file order.
 pub fn check(cfg: &NetCfg) -> Result<(), Clash>
     requires ranges { HasRanges cfg.now }
     requires tree { IsTree cfg.now }

@@ -43,7 +43,7 @@ impl Exchange {
     ghost use Rattle.wrp_exch.specs.Ticks.{NoneAfter, TicksRise, NotOlder};
 
     /// An exchange with no chain, which knows the last `ring` good samples: 1 to 4096. It takes all
-    /// the memory that it will need.
+    /// the memory that it will need. `AllocError` where there is not that much: no exchange is made.
     pub fn new(alloc: Global, ring: usize) -> Result<Exchange, AllocError>
         requires least { 1 ≤ ring }
         requires greatest { ring ≤ 4096 }

@@ -43,7 +43,8 @@ impl<'a> Block<'a> {
     }
 
     /// Puts the parts of the next line into `row`, and answers whether there was a line. The line
-    /// ends with LF, with CR and LF, or with the block. The error is want of memory.
+    /// ends with LF, with CR and LF, or with the block. `AllocError` where there is no memory: then
+    /// nothing is known of `row` and of the octets that are left, so read no further.
     pub fn next(&mut self, row: &mut ByteRecord) -> Result<bool, AllocError>
         ensures line { (line rest : List ℕ)
             → self.old ≡ Some (line ++ 10 ∷ rest) → IsLine line

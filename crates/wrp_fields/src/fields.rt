@@ -36,7 +36,8 @@ pub fn name_fault(place: u32) -> TraceFault
     TraceFault::Name { field: place }
 }
 
-/// The number from `least` to `greatest` in the field of a place.
+/// The number from `least` to `greatest` in the field of a place. `Number` with that place where the
+/// field is missing, is no number, or is out of that range.
 pub fn number_at(row: &ByteRecord, place: u32, least: u64, greatest: u64) -> Result<u64, TraceFault>
     requires { 0 < place }
     ensures value { result ≡ number_at least greatest place (fields_of row.now) }

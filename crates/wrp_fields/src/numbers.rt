@@ -44,6 +44,7 @@ fn opposite(number: i128) -> i128
 }
 
 /// The number from `least` to `greatest` that a text writes, where both are from 0 on. `-0` is 0.
+/// None where it is no number, or out of that range.
 pub fn natural(text: &[u8], least: u64, greatest: u64) -> Option<u64>
     ensures value { result ≡ natural_in least greatest text.now }
     ensures range { IfSome result (λ n. (least ≤ n) × (n ≤ greatest)) }

@@ -32,7 +32,8 @@ fn is_plain_octet(octet: u8) -> bool
     octet != b'"' && octet != b'\r' && octet != b'\n' && octet < 128
 }
 
-/// Puts the parts of a plain line into `row`.
+/// Puts the parts of a plain line into `row`. `AllocError` where there is no memory: then nothing is
+/// known of `row`.
 #[tactic(auto, using(crate::proofs::PlainLemmas::line_is, crate::proofs::PlainLemmas::starts_plain))]
 pub fn split(alloc: Global, line: &[u8], row: &mut ByteRecord) -> Result<(), AllocError>
     requires { is_plain line.now ≡ true }

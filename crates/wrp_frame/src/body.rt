@@ -21,7 +21,7 @@ use crate::places::{
 use wrp_base::Body;
 use wrp_tlv::numbers::{i16_at, u16_at, u32_at, u64_at};
 
-/// Tests that the nanosecondsField of a kind that has one is below a second.
+/// Tests that the nanosecondsField of a kind that has one is below a second. `Time` where it is not.
 #[tactic(auto, using(crate::proofs::FirstFaults::first_time))]
 pub fn check_time(octets: &[u8], kind: MessageType) -> Result<(), FrameFault>
     requires header { HasHeader kind octets.now }
@@ -35,7 +35,9 @@ pub fn check_time(octets: &[u8], kind: MessageType) -> Result<(), FrameFault>
     Ok(())
 }
 
-/// What the TLVs behind the body say of White Rabbit: `end` is messageLength.
+/// What the TLVs behind the body say of White Rabbit: `end` is messageLength. `Tlv` where no list of
+/// whole TLVs fills the octets up to there. `BadWr` where the kind is Announce or Signaling, and a
+/// White Rabbit TLV has no id or not the length of its id.
 #[tactic(auto, using(crate::proofs::FirstFaults::tlv_faults))]
 pub fn check_tlvs(octets: &[u8], kind: MessageType, end: usize) -> Result<Found, FrameFault>
     requires header { HasHeader kind octets.now }
@@ -52,7 +54,7 @@ pub fn check_tlvs(octets: &[u8], kind: MessageType, end: usize) -> Result<Found,
     Ok(found)
 }
 
-/// Tests that a Sync has twoStepFlag.
+/// Tests that a Sync has twoStepFlag. `OneStep` where it has not; any other kind passes.
 #[tactic(auto, using(crate::proofs::FirstFaults::first_one_step))]
 pub fn check_two_step(octets: &[u8], kind: MessageType, found: &Found) -> Result<(), FrameFault>
     requires header { HasHeader kind octets.now }

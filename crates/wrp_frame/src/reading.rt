@@ -12,7 +12,8 @@ use wrp_base::PtpMsg;
 /// The message that the octets spell, which is sound. Octets after messageLength are padding, TLVs
 /// of unknown types are passed over, and reserved places are free.
 ///
-/// Refused with the first fault, in the order of `FrameFault`, that the octets have.
+/// Refused with the first fault, in the order of [`FrameFault`], that the octets have, and accepted
+/// where they have none.
 pub fn decode(bytes: &[u8]) -> Result<PtpMsg, FrameFault>
     ensures spelled { (message : PtpMsg) → (result ≡ Ok message) ↔ Spells bytes.now message }
     ensures refused { (fault : FrameFault) → (result ≡ Err fault) ↔ IsFirstFault fault bytes.now }

@@ -42,14 +42,17 @@ pub trait Link {
     /// The octets that wait at an end, the longest waiting first, where the link tells them.
     ghost waiting: { Self → ℕ → Option (List (List ℕ)) } = { λ _ _. None };
 
-    /// Makes `ends` ends, numbered from 0.
+    /// Makes `ends` ends, numbered from 0. On any error the call is not told and the same frames wait.
+    /// `StartFault::Failed` where the link failed: its count of faults rose. `StartFault::Memory` where
+    /// there was no memory: the count is as before.
     fn start(&mut self, ends: u32) -> Result<(), StartFault>
         ensures cause { HasStartCause (faults self.old) (faults self.new) result }
         ensures tells { Tells (told self.old) (told self.new) result (λ _. Start ends) }
         ensures waits { SameWaits (waiting self.old) (waiting self.new) };
 
     /// Sends the octets of one frame from an end: at most 256. They wait at the other end of that
-    /// link.
+    /// link. `Failed` where the link failed: its count of faults rose, the call is not told, and the
+    /// same frames wait as before.
     fn send(&mut self, end: u32, bytes: &[u8]) -> Result<(), Failed>
         requires { length bytes.now ≤ 256 }
         ensures cause { HasCause (faults self.old) (faults self.new) result }
@@ -58,7 +61,8 @@ pub trait Link {
         ensures waits { Sends (waiting self.old) (waiting self.new) result end bytes.now };
 
     /// Answers whether a frame waited at an end. If one did, the octets of the one that waited
-    /// longest stand in `out`, in place of what it held, and wait no more.
+    /// longest stand in `out`, in place of what it held, and wait no more. `Failed` where the link
+    /// failed: its count of faults rose, the call is not told, and `out` and what waits are as before.
     fn recv(&mut self, end: u32, out: &mut Frame) -> Result<bool, Failed>
         ensures cause { HasCause (faults self.old) (faults self.new) result }
         ensures tells { Tells (told self.old) (told self.new) result

@@ -37,7 +37,8 @@ impl MemLink {
     ghost use Rattle.wrp_io.specs.declared.link.LinkCall.TheVariants.{Receive};
 
     /// A link that takes `calls` calls, of which those with a number in `fails`, counted from 1,
-    /// fail. It takes all the memory that it will need.
+    /// fail. It takes all the memory that it will need. `AllocError` where there is not that much: no
+    /// link is made.
     pub fn new(alloc: Global, calls: u32, fails: Vec<u32>) -> Result<MemLink, AllocError>
         ensures { IfOk result (λ link. link ≡ new_link calls fails.items) }
     {

@@ -29,7 +29,8 @@ impl Model for MemSink {
 
 impl MemSink {
     /// A sink with room for `room` octets, whose calls with a number in `fails`, counted from 1,
-    /// fail. It takes all the memory that it will need.
+    /// fail. It takes all the memory that it will need. `AllocError` where there is not that much: no
+    /// sink is made.
     pub fn new(alloc: Global, room: usize, fails: Vec<u32>) -> Result<MemSink, AllocError>
         ensures { IfOk result (λ sink.
             sink ≡ record { held = []; room = room; calls = no_calls fails.items }) }

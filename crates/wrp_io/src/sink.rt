@@ -14,6 +14,8 @@ pub trait Sink {
     ghost faults: { Self → ℕ };
 
     /// Appends the first octets of `piece`, and answers how many: at least one where there is one.
+    /// `Failed` where the sink failed: its count of faults rose. Where it tells its octets, none was
+    /// appended.
     fn write(&mut self, piece: &[u8]) -> Result<usize, Failed>
         ensures bound { IfOk result (λ n. n ≤ length piece.now) }
         ensures some { 0 < length piece.now → IfOk result (λ n. 0 < n) }

@@ -17,7 +17,8 @@ pub trait Source {
     ghost faults: { Self → ℕ };
 
     /// Puts the next octets that are left at the front of `buf`, and answers how many. For a buffer
-    /// with room 0 is the end.
+    /// with room 0 is the end. `Failed` where the source failed: its count of faults rose. Where it
+    /// tells its octets, the same are left.
     fn read(&mut self, buf: &mut [u8]) -> Result<usize, Failed>
         ensures bound { IfOk result (λ n. n ≤ length buf.new) }
         ensures octets { ReadConsumes (left self.old) (left self.new) result buf.new }

@@ -126,7 +126,8 @@ impl Link {
         }
     }
 
-    /// The port's own module, where the calibration database lists it; None without a carrier.
+    /// The port's own module. None without a carrier, and where the calibration database does not list
+    /// it.
     pub fn own_module(&self) -> Option<Module>
         ensures { result ≡ self.now.own_module }
     {
@@ -134,7 +135,7 @@ impl Link {
     }
 
     /// The peer's deltaTx and deltaRx, in tau: those of the CALIBRATED that moved this handshake, until
-    /// the port returns to IDLE.
+    /// the port returns to IDLE. None before it has moved the handshake, and in IDLE.
     pub fn peer_deltas(&self) -> Option<(u64, u64)>
         ensures value { result ≡ deltas_of self.now }
         ensures told { (inputs : List LinkIn) → StandsFor self.now inputs → (tx rx : ℕ) →

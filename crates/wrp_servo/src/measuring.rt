@@ -10,7 +10,10 @@ ghost use Rattle.wrp_servo.specs.Sizes.{IsSized, FitsFour, HasRoom, FitsTimes};
 
 use crate::machine::{Core, Measurement};
 use crate::sampling::{est, is_within};
-use wrp_base::{Clock, Deltas, Four, ServoState, Tau, difference, floor_div, hold, narrow, product, sum, trunc_div};
+use wrp_base::{
+    Clock, Deltas, Four, ServoState, Tau, difference, floor_div, hold, narrow, product, sum,
+    trunc_div,
+};
 
 /// One second.
 const SECOND: Tau = 65_536_000_000_000_000;
@@ -114,8 +117,8 @@ fn is_below_second(est: Tau) -> bool
 }
 
 impl Core {
-    /// The fixed delays of the link, in tau, by which a four is measured. None where no chain stands or
-    /// the link is off. The servo stays as it is.
+    /// The fixed delays of the link, in tau, by which a four is measured. None where there is no chain,
+    /// or the link is off. The servo stays as it is.
     pub fn deltas_in_chain(&self) -> Option<Deltas>
         ensures { result ≡ deltas_in_chain self.now }
     {

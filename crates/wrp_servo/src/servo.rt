@@ -270,8 +270,8 @@ impl<F: Fn(i64) -> i64> Servo<F> {
         self.core.state() == ServoState::Track
     }
 
-    /// The offset of the slave's clock, in tau, by the four that stands and the phase since; None where
-    /// no four stands. The servo stays as it is.
+    /// The offset of the slave's clock, in tau, by the four that is kept and the phase since; None
+    /// where there is no four. The servo stays as it is.
     pub fn est(&self) -> Option<Tau>
         ensures { result ≡ est_now self.now.core }
     {

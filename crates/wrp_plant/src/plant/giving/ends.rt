@@ -14,8 +14,8 @@ use super::listing::{Gift, add};
 use crate::plant::views::port_of;
 use std::alloc::AllocError;
 use wrp_base::{Module, Role};
-use wrp_network::{LinkCfg, Name};
 use wrp_course::{NodeOut, Place};
+use wrp_network::{LinkCfg, Name};
 use wrp_node::Input;
 
 // The role at the other end.

@@ -19,9 +19,9 @@ use crate::premises::modules::module_kept;
 use crate::premises::rates::true_at_top;
 use arrayvec::ArrayVec;
 use wrp_base::{Module, Role, Tau};
-use wrp_network::{LinkCfg, NetCfg};
 use wrp_config::link_above;
 use wrp_course::{Breach, Place, Swap, other_of, place_of};
+use wrp_network::{LinkCfg, NetCfg};
 
 // The wavelength that an end sends.
 fn sends_nm(role: Role, link: &LinkCfg) -> u16
