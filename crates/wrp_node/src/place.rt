@@ -1,5 +1,5 @@
 //! A port at its place in a node: with its number, its counters, and what it is about to put out.
-ghost use Rattle.std.specs.Prelude.{◌≡◌, ◌≤◌, ◌<◌, ◌+◌, ◌++◌, ◌∷◌, length, map, [], Some, IfSome};
+ghost use Rattle.std.specs.Prelude.{◌≡◌, ◌≤◌, ◌<◌, ◌+◌, ◌++◌, ◌∷◌, length, map, [], Some};
 ghost use Rattle.std.specs.List.{AllByRecursion};
 ghost use Rattle.wrp_base.specs.Message.{IsSound};
 ghost use Rattle.wrp_data.specs.Counters.{no_counts};
@@ -12,6 +12,7 @@ ghost use Rattle.wrp_link.specs.Table.{word_of};
 ghost use Rattle.wrp_node.specs.NodeRun.{word_out, frame_out};
 ghost use Rattle.wrp_node.specs.Telling.{counted};
 ghost use Rattle.wrp_port.specs.declared.interface.PortIn.TheVariants as port;
+ghost use Rattle.wrp_port.specs.Outputs.{IsPortReason};
 ghost use Rattle.wrp_port.specs.PortAt.{IsFit, IsStamp};
 
 use crate::{Output, Outputs, Report};
@@ -124,7 +125,7 @@ impl PortPlace {
 
     // Counts why the port dropped a message, if it did.
     fn count_drop(&mut self)
-        requires { IfSome self.old.lent.drop (λ number. (1 ≤ number) × (number ≤ 15)) }
+        requires { IsPortReason self.old.lent.drop }
         ensures { self.new ≡ record self.old {
           counters = counted self.old.lent.drop self.old.counters;
         } }

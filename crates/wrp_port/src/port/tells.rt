@@ -1,12 +1,12 @@
 //! The inputs of a port that come most often, each by a call of its own: it copies less than `step`.
-ghost use Rattle.std.specs.Prelude.{◌≡◌, ◌≤◌, List, IfSome, IsTrue};
+ghost use Rattle.std.specs.Prelude.{◌≡◌, List, IfSome, IsTrue};
 ghost use Rattle.wrp_base.specs.Calls.{Adds};
 ghost use Rattle.wrp_base.specs.Message.{IsSound};
 ghost use Rattle.wrp_exch.specs.Call.{Call};
 ghost use Rattle.wrp_exch.specs.Exchange.{StandsFor as ExchangeStandsFor, HasTimes};
 ghost use Rattle.wrp_link.specs.Table.{word_of};
 ghost use Rattle.wrp_port.specs.declared.interface.PortIn.{PortIn};
-ghost use Rattle.wrp_port.specs.Outputs.{sends_of, drop_of, measured_by, changed_word, is_dropped_early};
+ghost use Rattle.wrp_port.specs.Outputs.{sends_of, drop_of, measured_by, changed_word, is_dropped_early, IsPortReason};
 ghost use Rattle.wrp_port.specs.PortAt.{IsStamp, StandsFor};
 
 use super::{Port, change};
@@ -75,7 +75,7 @@ impl Port {
         ensures silent { IsTrue (is_dropped_early self.old.set self.old.line (PortIn.Msg message.now stamp tick))
             → self.new ≡ self.old }
         ensures times { IfSome out.new.measured HasTimes }
-        ensures reason { IfSome out.new.drop (λ number. (1 ≤ number) × (number ≤ 15)) }
+        ensures reason { IsPortReason out.new.drop }
     {
         let before = self.line.link.word();
         out.sends.clear();
