@@ -1,5 +1,5 @@
 -- The reasons for which something is dropped: their order, numbers and names (this project's profile).
-use Rattle.std.specs.Prelude.{ℕ, List, [], ◌∷◌, codes}
+use Rattle.std.specs.Prelude.{ℕ, ◌≤◌, List, [], ◌∷◌, Option, IfSome, codes}
 use Rattle.wrp_data.specs.declared.reason.Reason.{Reason}
 use Rattle.wrp_data.specs.declared.reason.Reason.TheVariants.{Short, Version, Kind, Length, Time, Tlv, BadWr, OneStep, Domain, Stranger, NotForUs, Quiet, Unmatched, Range, Sample}
 
@@ -20,6 +20,10 @@ number_of Quiet = 12
 number_of Unmatched = 13
 number_of Range = 14
 number_of Sample = 15
+
+-- where there is a number, it is the number of a reason: 1 to 15
+abbrev pub IsReason : Option ℕ → Type 0
+IsReason reason = IfSome reason (λ number. (1 ≤ number) × (number ≤ 15))
 
 -- the name of a reason
 abbrev pub name_of : Reason → List ℕ

@@ -1,5 +1,5 @@
 -- The servo of a node, if it has one, and what it was told last of the lease and of the link.
-use Rattle.std.specs.Prelude.{◌≡◌, ℕ, ℤ, ◌≤◌, ◌+◌, ◌<◌, ◌^◌, Bool, true, false, if◌then◌else◌, List, ◌∷◌, Option, None, Some, is_some, IfSome}
+use Rattle.std.specs.Prelude.{◌≡◌, ℕ, ℤ, ◌+◌, ◌<◌, ◌^◌, Bool, true, false, if◌then◌else◌, List, ◌∷◌, Option, None, Some, is_some, IfSome}
 use Rattle.std.specs.Option.{option_map}
 use Rattle.wrp_base.specs.declared.link.Deltas.{Deltas}
 use Rattle.wrp_base.specs.declared.link.ServoState.{ServoState}
@@ -68,10 +68,6 @@ link_call on calls = if is_changed (is_some (link_told calls)) (is_some on) then
 -- the call that tells the servo that a carrier came or went: only where its port is the slave port
 abbrev pub carrier_call : Bool → Bool → Option Call
 carrier_call slave up = if slave then Some (CallCarrier up) else None
-
--- the reason of an answer is one that is counted
-abbrev pub IsReason : Option ℕ → Type 0
-IsReason reason = IfSome reason (λ number. (1 ≤ number) × (number ≤ 15))
 
 -- the law that the servo asks, where there is a servo
 abbrev pub law_in : {F : Type 0} → ControlOf F → Option (LawOf F)

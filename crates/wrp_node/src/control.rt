@@ -1,7 +1,8 @@
 //! The servo of a node, which has one exactly where it has a slave port.
 ghost use Rattle.std.specs.Prelude.{◌≡◌, ◌<◌, ℤ, [], Some, is_some, IfSome};
+ghost use Rattle.wrp_data.specs.Reason.{IsReason};
 ghost use Rattle.wrp_law.specs.Law.{KeepsFact};
-ghost use Rattle.wrp_node.specs.Control.{ControlStands, AddsCalls, KeepsLaw, HasTick, IsReason, law_in, lease_call, link_call, carrier_call, state_in, locked_in, certain_in, dac_in, tracked_in};
+ghost use Rattle.wrp_node.specs.Control.{ControlStands, AddsCalls, KeepsLaw, HasTick, law_in, lease_call, link_call, carrier_call, state_in, locked_in, certain_in, dac_in, tracked_in};
 ghost use Rattle.wrp_node.specs.Telling.{no_answer};
 ghost use Rattle.wrp_servo.specs.Call.{CallSample, CallMeasured, CallTick, CallReset};
 ghost use Rattle.wrp_node.specs.declared.interface.NodeSet.{NodeSet};

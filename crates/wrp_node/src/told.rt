@@ -1,7 +1,8 @@
 //! A servo, and what it was told last of the lease and of the link.
 ghost use Rattle.std.specs.Prelude.{◌≡◌, ◌+◌, ◌<◌, ◌^◌, ℤ, [], false};
+ghost use Rattle.wrp_data.specs.Reason.{IsReason};
 ghost use Rattle.wrp_law.specs.Law.{KeepsFact};
-ghost use Rattle.wrp_node.specs.Control.{AddsTold, IsReason};
+ghost use Rattle.wrp_node.specs.Control.{AddsTold};
 ghost use Rattle.wrp_servo.specs.Call.{CallSample, CallMeasured, CallTick, CallLease, CallLink, CallCarrier, CallReset};
 ghost use Rattle.wrp_servo.specs.Servo.{StandsFor as ServoStandsFor, servo_setting_of};
 ghost use Rattle.wrp_servo.specs.Sizes.{FitsTimes, FitsServoSet};

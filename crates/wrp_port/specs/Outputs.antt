@@ -1,5 +1,5 @@
 -- What a port answers to an input: the messages that it sends, why it drops one, and what it measures (this project's profile).
-use Rattle.std.specs.Prelude.{ℕ, ℤ, ◌+◌, ◌==◌, ◌&&◌, Bool, true, false, if◌then◌else◌, List, [], ◌∷◌, ◌++◌, Option, None, Some, is_some}
+use Rattle.std.specs.Prelude.{ℕ, ℤ, ◌≤◌, ◌+◌, ◌==◌, ◌&&◌, Bool, true, false, if◌then◌else◌, List, [], ◌∷◌, ◌++◌, Option, None, Some, is_some, IfSome}
 use Rattle.wrp_base.specs.declared.link.LinkWord.{LinkWord}
 use Rattle.wrp_base.specs.declared.link.LinkWord.TheVariants.{Down, Quiet, Ptp, In}
 use Rattle.wrp_base.specs.declared.link.Role.{Role}
@@ -31,6 +31,11 @@ use Rattle.wrp_port.specs.declared.setting.Setting.{Setting}
 use Rattle.wrp_port.specs.Hearing.{is_open, early_reason, link_input, piece_of, is_of_use}
 use Rattle.wrp_port.specs.LineAfter.{ticked, announces_on, syncs_on, requests_on}
 use Rattle.wrp_port.specs.Messages.{signals_of, announce_of, sync_of, request_of, follow_up_of, response_of}
+
+-- where there is a number, it is the number of a reason for which a port drops a message, 9 to 13:
+-- Domain, Stranger, NotForUs, Quiet or Unmatched
+abbrev pub IsPortReason : Option ℕ → Type 0
+IsPortReason drop = IfSome drop (λ number. (9 ≤ number) × (number ≤ 13))
 
 -- the rank of a word in the list of words
 abbrev pub rank_of : LinkWord → ℕ

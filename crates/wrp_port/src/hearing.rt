@@ -1,5 +1,6 @@
 //! What a port makes of a message that comes.
-ghost use Rattle.std.specs.Prelude.{◌≡◌};
+ghost use Rattle.std.specs.Prelude.{◌≡◌, ◌≤◌, IfSome};
+ghost use Rattle.wrp_data.specs.Reason.{number_of};
 ghost use Rattle.wrp_port.specs.Hearing.{is_open, is_addressed, early_reason, is_certain};
 
 use crate::setting::Setting;
@@ -35,7 +36,8 @@ fn is_addressed(ds: &PortDs, body: &Body) -> bool
 /// another domain; Stranger, not from the peer; NotForUs, a Signaling or Delay_Resp for another port;
 /// Quiet, at a port that is not open. None where there is no such reason. Nothing changes.
 pub fn early_reason(set: &Setting, link: &Link, message: &PtpMsg) -> Option<Reason>
-    ensures { result ≡ early_reason set.now link.now message.now }
+    ensures value { result ≡ early_reason set.now link.now message.now }
+    ensures range { IfSome result (λ reason. (9 ≤ number_of reason) × (number_of reason ≤ 12)) }
 {
     if message.head.domain != set.own.domain {
         return Some(Reason::Domain);

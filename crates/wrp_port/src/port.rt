@@ -11,7 +11,7 @@ ghost use Rattle.wrp_link.specs.Order.{Told};
 ghost use Rattle.wrp_link.specs.Table.{word_of};
 ghost use Rattle.wrp_port.specs.declared.interface.PortIn.{PortIn};
 ghost use Rattle.wrp_port.specs.History.{link_inputs, is_fresh};
-ghost use Rattle.wrp_port.specs.Outputs.{sends_of, drop_of, measured_by, changed_word, is_dropped_early};
+ghost use Rattle.wrp_port.specs.Outputs.{sends_of, drop_of, measured_by, changed_word, is_dropped_early, IsPortReason};
 ghost use Rattle.wrp_port.specs.PortAt.{IsFit, StandsFor, deltas_of};
 
 use crate::line::Rest;
@@ -116,7 +116,7 @@ impl Port {
         // trace.
         ensures silent { IsTrue (is_dropped_early self.old.set self.old.line input) → self.new ≡ self.old }
         ensures times { IfSome result.measured HasTimes }
-        ensures reason { IfSome result.drop (λ number. (1 ≤ number) × (number ≤ 15)) }
+        ensures reason { IsPortReason result.drop }
     {
         let mut out = PortOut::new();
         self.step_into(input, &mut out);
@@ -143,7 +143,7 @@ impl Port {
         // trace.
         ensures silent { IsTrue (is_dropped_early self.old.set self.old.line input) → self.new ≡ self.old }
         ensures times { IfSome out.new.measured HasTimes }
-        ensures reason { IfSome out.new.drop (λ number. (1 ≤ number) × (number ≤ 15)) }
+        ensures reason { IsPortReason out.new.drop }
     {
         let before = self.line.link.word();
         out.sends.clear();
@@ -214,9 +214,9 @@ impl Port {
 }
 
 impl Answer {
-    ghost use Rattle.std.specs.Prelude.{◌≡◌, ◌≤◌, None, Some, IfSome};
+    ghost use Rattle.std.specs.Prelude.{◌≡◌, None, Some};
     ghost use Rattle.wrp_data.specs.Reason.{number_of};
-    ghost use Rattle.wrp_port.specs.Outputs.{number_by, reason_by};
+    ghost use Rattle.wrp_port.specs.Outputs.{number_by, reason_by, IsPortReason};
 
     // No message is dropped, and nothing measured.
     fn none() -> Answer
@@ -228,11 +228,12 @@ impl Answer {
         }
     }
 
-    // A message is dropped for this reason.
+    // A message is dropped for this reason, one of a port's.
     fn dropping(reason: Reason) -> Answer
+        requires { IsPortReason (Some (number_of reason)) }
         ensures drop { result.drop ≡ Some (number_of reason) }
         ensures measured { result.measured ≡ None }
-        ensures reason { IfSome result.drop (λ number. (1 ≤ number) × (number ≤ 15)) }
+        ensures reason { IsPortReason result.drop }
     {
         Answer {
             drop: Some(reason.number()),
@@ -244,7 +245,7 @@ impl Answer {
     fn using(used: bool, measured: Option<Four>) -> Answer
         ensures drop { result.drop ≡ number_by (reason_by None used) }
         ensures measured { result.measured ≡ measured }
-        ensures reason { IfSome result.drop (λ number. (1 ≤ number) × (number ≤ 15)) }
+        ensures reason { IsPortReason result.drop }
     {
         Answer {
             drop: if used {

@@ -22,3 +22,4 @@ pub use laws::{
 pub use machine::{Core, Measurement, Signals};
 pub use phase_loop::PhaseLoop;
 pub use servo::Servo;
+pub use wrp_base::ChainNews;

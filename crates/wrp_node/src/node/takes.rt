@@ -1,8 +1,9 @@
 //! What a node does with each kind of input.
 ghost use Rattle.std.specs.Prelude.{◌≡◌, ◌<◌, ◌+◌, ◌^◌, true, Some};
 ghost use Rattle.wrp_base.specs.Message.{IsSound};
+ghost use Rattle.wrp_data.specs.Reason.{IsReason};
 ghost use Rattle.wrp_frame.specs.Faults.{fault_number};
-ghost use Rattle.wrp_node.specs.Control.{HasTick, KeepsLaw, IsReason, law_in};
+ghost use Rattle.wrp_node.specs.Control.{HasTick, KeepsLaw, law_in};
 ghost use Rattle.wrp_node.specs.Node.{FitsInput, HasTickFor, NodeLeads, NodeTakes, PortsTick, TakesFrame, TakesMessage, Takes, servo_has_tick, servo_has_sample, ticked, restarts, sent_at, carried_at};
 ghost use Rattle.wrp_node.specs.Parts.{FitsRaw, is_among};
 ghost use Rattle.wrp_node.specs.Telling.{with_lease, with_link};

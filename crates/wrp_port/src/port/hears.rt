@@ -1,5 +1,5 @@
 //! What a port does with a message that comes.
-ghost use Rattle.std.specs.Prelude.{◌≡◌, ◌≤◌, ℕ, Bool, [], ◌∷◌, List, None, if◌then◌else◌, is_some, IfSome, IsTrue};
+ghost use Rattle.std.specs.Prelude.{◌≡◌, ℕ, Bool, [], ◌∷◌, List, None, if◌then◌else◌, is_some, IfSome, IsTrue};
 ghost use Rattle.wrp_base.specs.Message.{IsSound, HasFittingTimes, FitsTimestamp};
 ghost use Rattle.wrp_exch.specs.Call.{Call, CallSync, CallFollowUp, CallResp};
 ghost use Rattle.wrp_exch.specs.DelayPair.{answered_pair};
@@ -11,7 +11,7 @@ ghost use Rattle.wrp_port.specs.declared.interface.PortIn.{PortIn};
 ghost use Rattle.wrp_port.specs.Hearing.{is_certain, link_input, piece_of, is_of_use, early_reason};
 ghost use Rattle.wrp_port.specs.LineAfter.{after, told, heard};
 ghost use Rattle.wrp_port.specs.Messages.{signals_of, response_of};
-ghost use Rattle.wrp_port.specs.Outputs.{sends_of, heard_sends, with_call, calls_after, drop_of, measured_by, is_kept, is_used_by, four_by, number_by, reason_by, is_dropped_early};
+ghost use Rattle.wrp_port.specs.Outputs.{sends_of, heard_sends, with_call, calls_after, drop_of, measured_by, is_kept, is_used_by, four_by, number_by, reason_by, is_dropped_early, IsPortReason};
 ghost use Rattle.wrp_port.specs.PortAt.{IsStamp};
 ghost use Rattle.wrp_port.specs.Wire.{later_by, earlier_by};
 
@@ -51,7 +51,7 @@ impl Port {
         ensures silent { IsTrue (is_some (early_reason self.old.set self.old.line.link message.now)) →
             self.new ≡ self.old }
         ensures times { IfSome result.measured HasTimes }
-        ensures reason { IfSome result.drop (λ number. (1 ≤ number) × (number ≤ 15)) }
+        ensures reason { IsPortReason result.drop }
     {
         match early_reason(&self.set, &self.line.link, message) {
             Some(reason) => Answer::dropping(reason),
@@ -87,7 +87,7 @@ impl Port {
             ≡ four_by self.old.set.ring calls
             (piece_of self.old.set.ds.role message.now.head message.now.body stamp tick) }
         ensures times { IfSome result.measured HasTimes }
-        ensures reason { IfSome result.drop (λ number. (1 ≤ number) × (number ≤ 15)) }
+        ensures reason { IsPortReason result.drop }
     {
         let head = &message.head;
         match (self.set.ds.role, message.body) {
@@ -138,7 +138,7 @@ impl Port {
         ensures drop { result.drop
             ≡ number_by (reason_by None (is_used self.old.line.link (link.Msg message))) }
         ensures measured { result.measured ≡ None }
-        ensures reason { IfSome result.drop (λ number. (1 ≤ number) × (number ≤ 15)) }
+        ensures reason { IsPortReason result.drop }
     {
         let first = self.line.ids.signal;
         let out = self.line.tell(LinkIn::Msg(message));
@@ -171,7 +171,7 @@ impl Port {
             ≡ number_by (reason_by None (is_some
             (kept_sync self.old.set.ring calls head.now.seq head.now.correction stamp tick))) }
         ensures measured { result.measured ≡ None }
-        ensures reason { IfSome result.drop (λ number. (1 ≤ number) × (number ≤ 15)) }
+        ensures reason { IsPortReason result.drop }
     {
         let kept = self.exchange.sync(head.seq, head.correction, stamp, tick);
         Answer::using(kept, None)
@@ -194,7 +194,7 @@ impl Port {
             ≡ four_by self.old.set.ring calls
             (Some (CallFollowUp head.now.seq (later_by precise head.now.correction))) }
         ensures times { IfSome result.measured HasTimes }
-        ensures reason { IfSome result.drop (λ number. (1 ≤ number) × (number ≤ 15)) }
+        ensures reason { IsPortReason result.drop }
     {
         let made = self
             .exchange
@@ -220,7 +220,7 @@ impl Port {
             ≡ four_by self.old.set.ring calls
             (Some (CallResp head.now.seq (earlier_by receive head.now.correction))) }
         ensures times { IfSome result.measured HasTimes }
-        ensures reason { IfSome result.drop (λ number. (1 ≤ number) × (number ≤ 15)) }
+        ensures reason { IsPortReason result.drop }
     {
         let made = self
             .exchange

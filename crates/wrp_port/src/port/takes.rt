@@ -1,10 +1,10 @@
 //! What a port does with each kind of input.
-ghost use Rattle.std.specs.Prelude.{◌≡◌, ◌≤◌, ◌^◌, [], List, None, unsigned_abs, IfSome, IsTrue, true, false};
+ghost use Rattle.std.specs.Prelude.{◌≡◌, ◌^◌, [], List, None, unsigned_abs, IfSome, IsTrue, true, false};
 ghost use Rattle.wrp_exch.specs.Call.{Call};
 ghost use Rattle.wrp_exch.specs.Exchange.{StandsFor as ExchangeStandsFor, HasTimes};
 ghost use Rattle.wrp_link.specs.declared.interface.LinkIn.TheVariants as link;
 ghost use Rattle.wrp_port.specs.LineAfter.{new_line, after, told};
-ghost use Rattle.wrp_port.specs.Outputs.{sends_of, due_request, sent_call, sample_call, news_call, with_call, calls_after, drop_of, measured_by, follow_ups, is_dropped_early, is_newest};
+ghost use Rattle.wrp_port.specs.Outputs.{sends_of, due_request, sent_call, sample_call, news_call, with_call, calls_after, drop_of, measured_by, follow_ups, is_dropped_early, is_newest, IsPortReason};
 ghost use Rattle.wrp_port.specs.PortAt.{IsFit, IsStamp};
 
 use super::{Answer, Port};
@@ -32,7 +32,7 @@ impl Port {
             result.measured ≡ measured_by self.old.set self.old.line calls input }
         ensures silent { IsTrue (is_dropped_early self.old.set self.old.line input) → self.new ≡ self.old }
         ensures times { IfSome result.measured HasTimes }
-        ensures reason { IfSome result.drop (λ number. (1 ≤ number) × (number ≤ 15)) }
+        ensures reason { IsPortReason result.drop }
     {
         match input {
             PortIn::Msg { msg, stamp, tick } => self.hear(&msg, stamp, tick, sends),
