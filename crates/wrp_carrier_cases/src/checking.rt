@@ -6,9 +6,9 @@ ghost use Rattle.wrp_world.specs.StandsFor.{IsValid};
 use crate::counts::Counts;
 use crate::failure::Failure;
 use wrp_base::{LinkState, LinkWord, Role, ServoState};
-use wrp_network::LinkCfg;
 use wrp_bounds::{holdover, path};
 use wrp_check::judge;
+use wrp_network::LinkCfg;
 use wrp_node::{Input, Node};
 use wrp_world::World;
 

@@ -10,8 +10,8 @@ use crate::link_rows::{down_in, up_in};
 use arrayvec::ArrayVec;
 use toml::{Table, Value};
 use wrp_base::{Fibre, Module};
-use wrp_network::{LinkCfg, Name};
 use wrp_caldb::{ListedModule, Lists, name_at, value_at};
+use wrp_network::{LinkCfg, Name};
 
 // The name at a key; none where no name stands there.
 fn name_of(key: &str, table: &Table) -> Name

@@ -6,8 +6,8 @@ ghost use Rattle.wrp_config.specs.Names as spec;
 ghost use Rattle.wrp_config.specs.Names.{has_port, is_lower_end, is_upper_end, pair_at, pair_of, listed_at};
 
 use wrp_base::Module;
-use wrp_network::{LinkCfg, NetCfg, NodeCfg};
 use wrp_caldb::CalDb;
+use wrp_network::{LinkCfg, NetCfg, NodeCfg};
 
 /// A network: its numbers, nodes and links, and the calibration database of its modules and fibres.
 #[derive(Debug, Drop)]

@@ -12,9 +12,9 @@ use crate::words::{name_of_node, text_of_link, text_of_servo};
 use itoa::Buffer;
 use std::alloc::{AllocError, Global};
 use wrp_base::{Frame, Tau};
-use wrp_network::NetCfg;
 use wrp_bounds::path;
 use wrp_config::Network;
+use wrp_network::NetCfg;
 use wrp_node::{Output, Report};
 use wrp_records::append_words;
 

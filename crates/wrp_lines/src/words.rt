@@ -4,8 +4,8 @@ ghost use Rattle.wrp_network.specs.Network.{name_at, node_count};
 ghost use Rattle.wrp_lines.specs.Words.{link_word, reason_word, servo_word};
 
 use wrp_base::{LinkState, LinkWord, ServoState};
-use wrp_network::NetCfg;
 use wrp_data::Reason;
+use wrp_network::NetCfg;
 
 /// The name of the node of this number.
 pub fn name_of_node(cfg: &NetCfg, node: u8) -> &str

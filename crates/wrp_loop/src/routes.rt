@@ -10,8 +10,8 @@ ghost use Rattle.wrp_course.specs.WorldAt.{FrameAt, WorldAt};
 ghost use Rattle.wrp_world.specs.StandsFor.{IsValid, StandsFor};
 
 use wrp_base::{PortIdentity, Role};
-use wrp_network::NetCfg;
 use wrp_course::{Place, place_of};
+use wrp_network::NetCfg;
 use wrp_world::World;
 
 /// The way of a frame.

@@ -7,8 +7,8 @@ ghost use Rattle.wrp_names.specs.Fields.{node_at, link_at};
 use crate::names::{link_named, node_named};
 use csv::ByteRecord;
 use wrp_base::TraceFault;
-use wrp_network::NetCfg;
 use wrp_fields::{field, name_fault};
+use wrp_network::NetCfg;
 
 /// The node that the field of a place names. `Name` with this place where it is no node's name.
 pub fn node_at(row: &ByteRecord, place: u32, cfg: &NetCfg) -> Result<u8, TraceFault>

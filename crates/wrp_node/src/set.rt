@@ -12,9 +12,9 @@ ghost use Rattle.wrp_node.specs.Set as spec;
 use crate::NodeSet;
 use arrayvec::ArrayVec;
 use wrp_base::{PortIdentity, Role};
-use wrp_network::{LinkCfg, NetCfg};
 use wrp_data::{DefaultDs, PortDs};
 use wrp_link::LinkSet;
+use wrp_network::{LinkCfg, NetCfg};
 use wrp_port::Sched;
 use wrp_servo::ServoSet;
 

@@ -6,8 +6,8 @@ ghost use Rattle.wrp_course.specs.Checks.{told_of};
 ghost use Rattle.wrp_course.specs.Checks as spec;
 
 use wrp_base::Tau;
-use wrp_network::NetCfg;
 use wrp_course::Breach;
+use wrp_network::NetCfg;
 
 /// One ns, in tau.
 const TAU_OF_NS: u128 = 65_536_000;

@@ -7,8 +7,8 @@ ghost use Rattle.wrp_course.specs.Views.{oldest_of};
 ghost use Rattle.wrp_course.specs.WorldAt.{EndAt};
 
 use wrp_base::{Frame, Mark, Role, Tau, sum};
-use wrp_network::Name;
 use wrp_course::FibreState;
+use wrp_network::Name;
 
 /// A frame that a port put out, and that has not departed.
 #[derive(Debug, Drop)]

@@ -22,10 +22,10 @@ use kinds::kind_of;
 use std::alloc::Global;
 use std::marker::Model;
 use wrp_base::{Tau, TraceFault};
-use wrp_network::{LinkCfg, NetCfg, NodeCfg};
 use wrp_config::Network;
 use wrp_fields::{field, is_plain, split};
 use wrp_names::{link_at, node_at};
+use wrp_network::{LinkCfg, NetCfg, NodeCfg};
 
 // The place of the first field.
 const KIND: u32 = 1;

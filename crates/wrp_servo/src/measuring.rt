@@ -10,7 +10,10 @@ ghost use Rattle.wrp_servo.specs.Sizes.{IsSized, FitsFour, HasRoom, FitsTimes};
 
 use crate::machine::{Core, Measurement};
 use crate::sampling::{est, is_within};
-use wrp_base::{Clock, Deltas, Four, ServoState, Tau, difference, floor_div, hold, narrow, product, sum, trunc_div};
+use wrp_base::{
+    Clock, Deltas, Four, ServoState, Tau, difference, floor_div, hold, narrow, product, sum,
+    trunc_div,
+};
 
 /// One second.
 const SECOND: Tau = 65_536_000_000_000_000;

@@ -23,11 +23,11 @@ pub use printing::event_line;
 use std::alloc::Global;
 use swaps::swaps_at;
 use wrp_base::TraceFault;
-use wrp_network::NetCfg;
 use wrp_config::Network;
 use wrp_course::Event;
 use wrp_fields::{is_plain, split};
 use wrp_names::{link_at, node_at};
+use wrp_network::NetCfg;
 
 // What the fields of a line say.
 fn read_row(row: &ByteRecord, net: &Network) -> Result<Event, TraceFault>

@@ -16,11 +16,11 @@ use crate::checks::frame_life as life;
 use crate::ends::{EndState, Span};
 use std::alloc::{AllocError, Global};
 use wrp_base::{Module, Tau, difference, product};
-use wrp_network::{LinkCfg, Name, NetCfg};
 use wrp_caldb::CalDb;
 use wrp_config::Network;
 use wrp_course::{ClockState, FibreState};
 use wrp_flights::Frames;
+use wrp_network::{LinkCfg, Name, NetCfg};
 
 /// One second, in tau.
 const SECOND: i128 = 65_536_000_000_000_000;

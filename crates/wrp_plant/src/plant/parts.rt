@@ -10,9 +10,9 @@ ghost use Rattle.wrp_course.specs.WorldAt.{WorldAt};
 use super::Plant;
 use crate::ends::{EndState, Span};
 use wrp_base::{Role, Tau};
-use wrp_network::{LinkCfg, NetCfg, NodeCfg};
 use wrp_course::{ClockState, Place};
 use wrp_flights::Departed;
+use wrp_network::{LinkCfg, NetCfg, NodeCfg};
 
 impl Plant {
     /// The numbers of the network.

@@ -22,8 +22,8 @@ use crate::checks::{shortest_tick, stands};
 use crate::premises::beat::beat_kept;
 use crate::premises::ticks::tick_early;
 use wrp_base::{Tau, difference, sum};
-use wrp_network::{LinkCfg, NetCfg};
 use wrp_course::Breach;
+use wrp_network::{LinkCfg, NetCfg};
 
 fn both(a: bool, b: bool) -> bool
     ensures { result ≡ (a && b) }

@@ -11,9 +11,9 @@ ghost use Rattle.wrp_course.specs.WorldAt.{WorldAt, first_name, named_at};
 use super::Plant;
 use crate::checks::{longest_tick, shortest_tick};
 use wrp_base::{Mark, Module, Role, Tau, sum};
-use wrp_network::LinkCfg;
 use wrp_course::{Place, place_of};
 use wrp_flights::Departed;
+use wrp_network::LinkCfg;
 
 impl Plant {
     /// Whether a link is joined.

@@ -7,8 +7,8 @@ ghost use Rattle.wrp_plant.specs.Sizes.{IsDelay, IsTime};
 
 use crate::checks::{at_least, at_most, size};
 use wrp_base::{Tau, difference, product, sum};
-use wrp_network::LinkCfg;
 use wrp_course::{Breach, FibreState};
+use wrp_network::LinkCfg;
 
 // The part of both ways that the way down takes, times `2^40`.
 fn share(kappa: i64, both: Tau) -> Tau

@@ -20,8 +20,8 @@ use super::pure::{is_at, is_within, stamp_at, thousands};
 use super::state::State;
 use crate::draws::Draws;
 use wrp_base::{Role, Tau};
-use wrp_network::LinkCfg;
 use wrp_course::Place;
+use wrp_network::LinkCfg;
 use wrp_world::{Event, World};
 
 /// A port whose oldest waiting frame departs.

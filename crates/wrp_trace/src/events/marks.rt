@@ -13,10 +13,10 @@ use super::names::parts_at;
 use arrayvec::ArrayVec;
 use csv::ByteRecord;
 use wrp_base::TraceFault;
-use wrp_network::{LinkCfg, Name, NetCfg, NodeCfg};
 use wrp_course::Event;
 use wrp_fields::{field, name_fault, number_fault};
 use wrp_names::{link_named, node_named};
+use wrp_network::{LinkCfg, Name, NetCfg, NodeCfg};
 
 /// How far each node's clock moves away from true time, in tau.
 pub type Drifts = ArrayVec<i64, 64>;

@@ -5,8 +5,8 @@ ghost use Rattle.wrp_caldb.specs.Name.{is_name};
 ghost use Rattle.wrp_trace.specs.EventFields.{before, behind};
 
 use std::str;
-use wrp_network::Name;
 use wrp_caldb::{is_name, name_of};
+use wrp_network::Name;
 
 /// The text of a name; None exactly where the octets are no name.
 #[tactic(auto, using(crate::proofs::NameLemmas::no_utf8_no_name))]

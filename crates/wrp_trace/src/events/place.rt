@@ -12,10 +12,10 @@ use super::marks::{Marks, changes_into, still_clocks, still_fibres};
 use super::{arrive, cut, deliver, depart, down, join, noise, sample, tick, up};
 use csv::ByteRecord;
 use wrp_base::TraceFault;
-use wrp_network::NetCfg;
 use wrp_config::Network;
 use wrp_course::Event;
 use wrp_fields::field;
+use wrp_network::NetCfg;
 
 // The place of the first field.
 const KIND: u32 = 1;

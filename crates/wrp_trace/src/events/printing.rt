@@ -15,9 +15,9 @@ use super::swaps::Swaps;
 use crate::printing::{bits_text, octets_of, octets_text};
 use std::alloc::{AllocError, Global};
 use wrp_base::{Frame, Raw, Tau};
-use wrp_network::{LinkCfg, NetCfg, NodeCfg};
 use wrp_config::Network;
 use wrp_course::{Event, Swap};
+use wrp_network::{LinkCfg, NetCfg, NodeCfg};
 
 /// The line of an event, without LF. `AllocError` where there is no memory for it.
 pub fn event_line(alloc: Global, e: &Event, net: &Network) -> Result<Vec<u8>, AllocError>

@@ -10,9 +10,9 @@ use super::names::{name_in, parts_at};
 use arrayvec::ArrayVec;
 use csv::ByteRecord;
 use wrp_base::TraceFault;
-use wrp_network::Name;
 use wrp_course::Swap;
 use wrp_fields::{field, name_fault, natural, number_fault};
+use wrp_network::Name;
 
 /// The swaps of an `up`.
 pub type Swaps = ArrayVec<Swap, 18>;

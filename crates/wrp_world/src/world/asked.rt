@@ -12,8 +12,8 @@ ghost use Rattle.wrp_world.specs.StandsFor.{IsValid, StandsFor, Tells, time_of};
 
 use super::World;
 use wrp_base::{Module, Tau};
-use wrp_network::{LinkCfg, NodeCfg};
 use wrp_course::{Place, place_of};
+use wrp_network::{LinkCfg, NodeCfg};
 
 impl<F: Fn(i64) -> i64> World<F> {
     /// True time, in tau: within `2^100`.

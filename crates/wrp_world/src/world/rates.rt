@@ -18,8 +18,8 @@ ghost use Rattle.wrp_course.specs.WorldAt.{WorldAt};
 use super::World;
 use arrayvec::ArrayVec;
 use wrp_base::ServoState;
-use wrp_network::NodeCfg;
 use wrp_course::Breach;
+use wrp_network::NodeCfg;
 use wrp_plant::rate_kept;
 
 // Whether a servo is in HOLDOVER.

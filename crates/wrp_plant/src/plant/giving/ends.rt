@@ -14,8 +14,8 @@ use super::listing::{Gift, add};
 use crate::plant::views::port_of;
 use std::alloc::AllocError;
 use wrp_base::Module;
-use wrp_network::Name;
 use wrp_course::{NodeOut, Place, other_of, sends_nm};
+use wrp_network::Name;
 use wrp_node::Input;
 
 /// The other end of the link.

@@ -16,8 +16,8 @@ use super::listing::{Gift, add};
 use crate::plant::moves::swaps::name_with;
 use arrayvec::ArrayVec;
 use std::alloc::AllocError;
-use wrp_network::Name;
 use wrp_course::{NodeOut, Place, Swap, place_of};
+use wrp_network::Name;
 use wrp_node::Input;
 
 fn either(a: bool, b: bool) -> bool

@@ -8,8 +8,8 @@ ghost use Rattle.wrp_plant.specs.Tried.{moved_fibre};
 
 use crate::ends::{EndState, Span};
 use wrp_base::{Tau, sum};
-use wrp_network::{LinkCfg, NetCfg};
 use wrp_course::FibreState;
+use wrp_network::{LinkCfg, NetCfg};
 
 // How far the delay of a fibre moves down.
 fn down_at(moves: &[(i64, i64)], k: usize) -> i64

@@ -5,8 +5,8 @@ ghost use Rattle.wrp_course.specs.Moved.{swap_at};
 ghost use Rattle.wrp_plant.specs.Moves.{Put, Swapped, SwapsAt, SwapsIn, SwapsSpan, EachBecame, Where};
 
 use crate::ends::{EndState, Span};
-use wrp_network::{LinkCfg, Name, NetCfg};
 use wrp_course::Swap;
+use wrp_network::{LinkCfg, Name, NetCfg};
 
 // The same name.
 fn copied(name: &Name) -> Name

@@ -19,9 +19,9 @@ use crate::premises::modules::module_kept;
 use crate::premises::rates::true_at_top;
 use arrayvec::ArrayVec;
 use wrp_base::{Module, Tau};
-use wrp_network::NetCfg;
 use wrp_config::link_above;
 use wrp_course::{Breach, Place, Swap, other_of, place_of, sends_nm};
+use wrp_network::NetCfg;
 
 // Whether the link of a number stands above a node.
 fn is_above(cfg: &NetCfg, k: usize, n: u8) -> bool

@@ -12,9 +12,9 @@ ghost use Rattle.wrp_course.specs.WorldAt.{WorldAt};
 use super::super::Plant;
 use crate::checks::stands;
 use wrp_base::{Frame, PortIdentity, PtpMsg, Role};
-use wrp_network::LinkCfg;
 use wrp_course::{Breach, Place, place_of};
 use wrp_frame::{FrameFault, decode};
+use wrp_network::LinkCfg;
 
 // Two ports are one.
 fn is_same_port(a: PortIdentity, b: PortIdentity) -> bool
