@@ -7,7 +7,7 @@ use Rattle.wrp_course.specs.Run.{world_after}
 use Rattle.wrp_base.proofs.Lists.{all_append}
 use Rattle.wrp_course.specs.Setting.{Setting}
 use Rattle.wrp_io.specs.declared.link.LinkCall.{LinkCall}
-use Rattle.wrp_loop.specs.Calls.{Adds}
+use Rattle.wrp_loop.specs.Calls.{Grew}
 use Rattle.wrp_loop.specs.Laws.{Large, LoopIsAudited, Over}
 use Rattle.wrp_loop.specs.LoopRun.{Full, Going, Loops, On, Plan, events_at, place}
 use Rattle.wrp_scene.specs.EventLimit.{event_limit}
@@ -328,7 +328,7 @@ apart parts audited asked input calls _ octets h = tt
 -- a run over a link ended with this status, and wrote what the aim says
 abbrev pub IsLoopedSo : Run → Status → List ℕ → Type 0
 IsLoopedSo run status input =
-    (octets : List ℕ) × (calls : List LinkCall) × Appends run.sink.before run.sink.now octets × Adds run.link.before run.link.now calls × LoopHeadline run.asked input calls status octets
+    (octets : List ℕ) × (calls : List LinkCall) × Appends run.sink.before run.sink.now octets × Grew run.link.before run.link.now calls × LoopHeadline run.asked input calls status octets
 
 pub looped_told : LoopedEventsCarryParts → LoopIsAudited → (run : Run) (status : Status) (seed : ℕ) → Ends run status → IsLooping run.asked seed
     → IfSome run.source.before (IsLoopedSo run status)

@@ -2,7 +2,7 @@
 use Rattle.std.specs.Prelude.{◌≡◌, ◌⊎◌, ℕ, ◌≤◌, Option, Some, IfSome, List, [], ◌++◌, length}
 use Rattle.std.specs.Io.KnownBytes.{Appends, Consumes, IsAtEnd}
 use Rattle.wrp_io.specs.declared.link.LinkCall.{LinkCall}
-use Rattle.wrp_loop.specs.Calls.{Adds}
+use Rattle.wrp_loop.specs.Calls.{Grew}
 use Rattle.wrp_records.specs.declared.machine.Refusal.{Refusal}
 use Rattle.wrp_records.specs.declared.machine.Refusal.TheVariants as refusals
 use Rattle.wrp_records.specs.declared.status.Status.{Status}
@@ -36,7 +36,7 @@ Took run octets = Consumes run.source.before run.source.now octets
 
 -- the run added these calls, as they were answered, to those that the link tells
 abbrev pub Called : Run → List LinkCall → Type 0
-Called run calls = Adds run.link.before run.link.now calls
+Called run calls = Grew run.link.before run.link.now calls
 
 -- these calls decide what is due: those that the run added, where the link tells them; or none, since what is due without a call
 -- is due whatever was called

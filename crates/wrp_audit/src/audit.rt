@@ -42,7 +42,8 @@ pub struct AuditedNetwork<F> {
 }
 
 impl<F: Fn(i64) -> i64> AuditedNetwork<F> {
-    /// A network before its first event, with the laws of the links above its nodes.
+    /// A network before its first event, with the laws of the links above its nodes. `AllocError`
+    /// where there is no memory for it: no network is made.
     pub fn new(
         alloc: Global,
         net: Network,
@@ -75,7 +76,8 @@ impl<F: Fn(i64) -> i64> AuditedNetwork<F> {
         self.world.net()
     }
 
-    /// Appends the lines that close the records.
+    /// Appends the lines that close the records. `AllocError` where there is no memory: then
+    /// nothing is known of `text`.
     pub fn append_last(&self, text: &mut Vec<u8>) -> Result<(), AllocError>
         requires ready { CanAudit F.pre F.post self.now }
         requires none { text.old.items ≡ [] }
@@ -89,8 +91,9 @@ impl<F: Fn(i64) -> i64> AuditedNetwork<F> {
         }
     }
 
-    /// Takes the event that a place has, and appends what its steps write, or the line that names the premise that it
-    /// breaks.
+    /// Takes the event that a place has, and appends what its steps write, or the line that names
+    /// the premise that it breaks. `AllocError` where there is no memory: then nothing is known of
+    /// `text`, nor whether the event was taken, so the audit ends.
     pub fn happen(
         &mut self,
         alloc: Global,

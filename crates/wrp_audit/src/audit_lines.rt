@@ -30,7 +30,7 @@ pub struct AuditLines<F> {
 }
 
 impl<F: Fn(i64) -> i64> AuditLines<F> {
-    /// Before the first line.
+    /// Before the first line. `AllocError` where there is no memory for it: nothing is made.
     #[inline(never)]
     pub fn new(
         alloc: Global,

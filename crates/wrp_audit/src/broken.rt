@@ -29,8 +29,9 @@ fn premise_name(premise: u8) -> &'static str
     }
 }
 
-/// Appends the line of an event that breaks a premise: the number of the premise, and both sides of the
-/// comparison that fails.
+/// Appends the line of an event that breaks a premise: the number of the premise, and both sides of
+/// the comparison that fails. `AllocError` where there is no memory: then nothing is known of
+/// `text`.
 pub fn append_broken(
     alloc: Global,
     text: &mut Vec<u8>,

@@ -40,12 +40,12 @@ abbrev pub both_ways_error : HopNumbers → ℕ
 both_ways_error hop = down_error hop + up_error hop + 4 * hop.e_db + age_motion hop
 
 -- the share of the way down in both ways, in 2^-40
-abbrev pub slope_of : ℤ → ℕ
-slope_of kappa = unsigned_abs (pos (2 ^ 39) +ℤ kappa)
+abbrev pub share_down : ℤ → ℕ
+share_down kappa = unsigned_abs (pos (2 ^ 39) +ℤ kappa)
 
 -- what of the error of both ways goes into the way down
 abbrev pub scaled_error : HopNumbers → ℕ
-scaled_error hop = rounded_up (slope_of hop.kappa * both_ways_error hop) (2 ^ 40)
+scaled_error hop = rounded_up (share_down hop.kappa * both_ways_error hop) (2 ^ 40)
 
 -- how far the estimated offset from the parent may be from the true one
 abbrev pub estimate_error : HopNumbers → ℕ

@@ -130,7 +130,7 @@ impl HopNumbers {
         ensures value { result ≡ spec.scaled_error self.now }
         ensures size { result ≤ 2 ^ 77 }
     {
-        rounded_up(slope(self.kappa) * self.both_ways_error(), 1 << 40)
+        rounded_up(share_down(self.kappa) * self.both_ways_error(), 1 << 40)
     }
 
     // How far the estimated offset from the parent may be from the true one.
@@ -160,9 +160,9 @@ impl HopNumbers {
 }
 
 // The share of the way down in both ways, in `2^-40`.
-fn slope(kappa: i64) -> u128
+fn share_down(kappa: i64) -> u128
     requires { unsigned_abs kappa ≤ 2 ^ 38 }
-    ensures value { result ≡ spec.slope_of kappa }
+    ensures value { result ≡ spec.share_down kappa }
     ensures size { result ≤ 2 ^ 40 }
 {
     u128::from(((1i64 << 39) + kappa).unsigned_abs())

@@ -153,7 +153,9 @@ impl Calib {
         }
     }
 
-    /// The delays and the asymmetry that the runs tell, or the first thing that stands against them.
+    /// The delays and the asymmetry that the runs tell, or the first fault: `Missing` for a kind of
+    /// which no run came, else `Conflict` for a delay whose interval is empty, else `Short` for a
+    /// strand that may be shorter than 1 tau. The calibration stays as it is.
     pub fn answer(&self) -> Result<CalibOut, CalibFault>
         ensures value { (errors : Errors) (runs : List Run) → StandsFor errors self.now runs →
             result ≡ answer_of errors runs }

@@ -13,11 +13,11 @@ use Rattle.wrp_base.specs.Link.{other_of}
 use Rattle.wrp_base.proofs.Integers.{pos_le}
 use Rattle.wrp_phase.specs.Beat.{beat_bit}
 use Rattle.wrp_phase.specs.BeatPattern.{KeepsBeatPattern, true_step, steps_past}
-use Rattle.wrp_stamp.specs.Merge.{quarter_of}
+use Rattle.wrp_stamp.specs.Merge.{quarter_of, transition_of}
 use Rattle.wrp_stamp.specs.StampBound.{KeepsStampBound, true_place, MayUseRising, MayUseFalling}
 use Rattle.wrp_course.specs.Checks.{Check, AllHold, only_where, needs}
 use Rattle.wrp_course.specs.Laws.{ArrivalKeepsStampBound, SampleKeepsBeatPattern}
-use Rattle.wrp_course.specs.Premises.{bit_check, beat_by, beat_checks, sample_checks, raw_checks, received, received_at, arrive_checks, transition_of, may_rise, may_fall}
+use Rattle.wrp_course.specs.Premises.{bit_check, beat_by, beat_checks, sample_checks, raw_checks, received, received_at, arrive_checks, may_rise, may_fall}
 use Rattle.wrp_course.specs.Setting.{Setting, entry_at, from_on, link_of, of_node}
 use Rattle.wrp_course.specs.WorldAt.{WorldAt, FrameAt, has_carrier, is_on_fibre, phase_of, reading}
 use Rattle.wrp_course.proofs.Told.{made}

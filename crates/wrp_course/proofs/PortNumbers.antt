@@ -7,14 +7,14 @@ use Rattle.wrp_network.specs.declared.configuration.NetCfg.{NetCfg}
 use Rattle.wrp_base.specs.declared.link.Role.{Role}
 use Rattle.wrp_base.specs.declared.link.Role.TheVariants.{Master, Slave}
 use Rattle.wrp_network.specs.declared.network.LinkCfg.{LinkCfg}
-use Rattle.wrp_network.specs.Network.{End, ends_of, HasLinkRanges, HasRanges, NamesNoPortTwice}
+use Rattle.wrp_network.specs.Network.{End, ends_of, HasRanges, NamesNoPortTwice}
 use Rattle.wrp_base.proofs.Naturals.{same_suc}
 use Rattle.wrp_config.specs.Names.{is_upper_end, is_lower_end}
 use Rattle.wrp_data.specs.declared.datasets.PortDs.{PortDs}
 use Rattle.wrp_config.proofs.Reached.{lower_has, upper_has}
 use Rattle.wrp_node.specs.NodeAt.{in_order, is_before, numbers_of, placed}
 use Rattle.wrp_node.specs.Set.{master_at, slave_at, ports_at, ports_of, set_of}
-use Rattle.wrp_node.proofs.OwnPorts.{AllApart, InRange, apart, numbers-are, numbers_at, numbers_in, with_number}
+use Rattle.wrp_node.proofs.OwnPorts.{AllApart, InRange, apart, has_ordered, in_range, numbers-are, numbers_at, numbers_in, with_number}
 use Rattle.wrp_course.specs.declared.place.Place.{Place}
 use Rattle.wrp_course.specs.Setting.{has_port}
 use Rattle.wrp_course.specs.Setting.{end_of, from_on, place_among}
@@ -54,25 +54,6 @@ numbers-sorted net n = ordered-numbers (ports_of net n) ∙ ap sorted (numbers-a
 abbrev any_of : ℕ → List ℕ → Bool
 any_of p ns = list_any (λ q. q == p) ns
 
-pub or_swap : (a b c : Bool) → (a || (b || c)) ≡ (b || (a || c))
-or_swap true true c = refl
-or_swap true false c = refl
-or_swap false true c = refl
-or_swap false false c = refl
-
-any-inserted-where : (b : Bool) (r p q : ℕ) (qs : List ℕ) → any_of r (inserted p qs) ≡ ((p == r) || any_of r qs) →
-    any_of r (if b then q ∷ inserted p qs else p ∷ q ∷ qs) ≡ ((p == r) || ((q == r) || any_of r qs))
-any-inserted-where true r p q qs h = ap (λ (b : Bool). (q == r) || b) h ∙ or_swap (q == r) (p == r) (any_of r qs)
-any-inserted-where false r p q qs h = refl
-
-any-inserted : (r p : ℕ) (qs : List ℕ) → any_of r (inserted p qs) ≡ ((p == r) || any_of r qs)
-any-inserted r p [] = refl
-any-inserted r p (q ∷ qs) = any-inserted-where (nat_lt q p) r p q qs (any-inserted r p qs)
-
-any-sorted : (r : ℕ) (ps : List ℕ) → any_of r (sorted ps) ≡ any_of r ps
-any-sorted r [] = refl
-any-sorted r (p ∷ ps) = any-inserted r p (sorted ps) ∙ ap (λ (b : Bool). (p == r) || b) (any-sorted r ps)
-
 any-with : (r : ℕ) (b : Bool) (p : ℕ) (ns : List ℕ) → any_of r (with_number b p ns) ≡ ((b && (p == r)) || any_of r ns)
 any-with r true p ns = refl
 any-with r false p ns = refl
@@ -93,7 +74,7 @@ any-place n p k (link ∷ links) =
 
 -- a node has a port exactly where a link names it
 pub has-place : (cfg : NetCfg) (n p : ℕ) → has_port cfg n p ≡ is_some (place_among n p 0 cfg.links.items)
-has-place cfg n p = ap (any_of p) (numbers-sorted cfg n) ∙ any-sorted p (own_numbers cfg n) ∙ any-place n p 0 cfg.links.items
+has-place cfg n p = has_ordered p (ports_of cfg n) ∙ ap (any_of p) (numbers-are cfg n cfg.links.items) ∙ any-place n p 0 cfg.links.items
 
 pub has_placed : (cfg : NetCfg) (n p : ℕ) (place : Place) → place_among n p 0 cfg.links.items ≡ Some place → has_port cfg n p ≡ true
 has_placed cfg n p place e = has-place cfg n p ∙ ap is_some e
@@ -133,19 +114,6 @@ placed_end k (suc i) (other ∷ links) link role e =
 pub has_end : (cfg : NetCfg) (i : ℕ) (link : LinkCfg) (role : Role) → slice_get cfg.links.items i ≡ Some link →
     has_port cfg (end_of role link).node (end_of role link).port ≡ true
 has_end cfg i link role e = has-place cfg (end_of role link).node (end_of role link).port ∙ placed_end 0 i cfg.links.items link role e
-
--- From 1 to 18
-
-range-where : (b : Bool) (p : ℕ) (ns : List ℕ) → InRange p → AllByRecursion InRange ns → AllByRecursion InRange (with_number b p ns)
-range-where true p ns h rest = (h, rest)
-range-where false p ns h rest = rest
-
-in_range : (n : ℕ) (links : List LinkCfg) → ((l : ℕ) (link : LinkCfg) → slice_get links l ≡ Some link → HasLinkRanges link) → AllByRecursion InRange (numbers_at n (flat_map ends_of links))
-in_range n [] each = tt
-in_range n (link ∷ links) each =
-    let own : HasLinkRanges link = each 0 link refl in
-    range-where (link.upper == n) link.upper_port _ own.upper_port
-    (range-where (link.lower == n) link.lower_port _ own.lower_port (in_range n links (λ l other at. each (suc l) other at)))
 
 -- Ascending
 

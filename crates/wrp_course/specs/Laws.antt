@@ -10,7 +10,8 @@ use Rattle.wrp_phase.specs.BeatPattern.{KeepsBeatPattern}
 use Rattle.wrp_stamp.specs.StampBound.{KeepsStampBound}
 use Rattle.wrp_course.specs.declared.event.Event.{Event}
 use Rattle.wrp_course.specs.declared.event.Event.TheVariants.{Arrive, Sample}
-use Rattle.wrp_course.specs.Premises.{Accepts, broken, transition_of}
+use Rattle.wrp_course.specs.Premises.{Accepts, broken}
+use Rattle.wrp_stamp.specs.Merge.{transition_of}
 use Rattle.wrp_course.specs.Setting.{Setting, above, end_at, entry_at, link_of, of_node, place_of}
 use Rattle.wrp_course.specs.Views.{history_of, waiting_of, tick_due, IsNextArrival, kept_count, octets_at, sender_of}
 use Rattle.wrp_course.specs.WorldAt.{WorldAt, FrameAt, new_world, phase_of, reading}

@@ -22,7 +22,7 @@ use Rattle.wrp_frame.specs.declared.fault.FrameFault.{FrameFault}
 use Rattle.wrp_node.specs.NodeAt.{locked_of, state_of, port_of}
 use Rattle.wrp_phase.specs.Beat.{beat_bit}
 use Rattle.wrp_phase.specs.BeatPattern.{true_step, steps_past}
-use Rattle.wrp_stamp.specs.Merge.{quarter_of, place_of as place_in_period}
+use Rattle.wrp_stamp.specs.Merge.{quarter_of, place_of as place_in_period, transition_of}
 use Rattle.wrp_stamp.specs.StampBound.{true_place}
 use Rattle.wrp_servo.specs.Sampling.{is_holdover}
 use Rattle.wrp_course.specs.declared.event.Event.{Event}
@@ -178,10 +178,6 @@ raw_checks clock e_tag transition at raw =
     (counter_check raw.rising (floor_quotient at (pos (period_of clock))))
     ∷ (only_where (may_fall clock e_tag (true_place clock at))
     (counter_check raw.falling (floor_quotient (at +ℤ pos (period_of clock / 2)) (pos (period_of clock)))) ∷ []))
-
--- the tag at which a new period begins with this module, in detector steps; 0 for a module that is not listed
-abbrev pub transition_of : Option Module → ℕ
-transition_of entry = option_map_or (λ m. m.transition) entry 0
 
 -- at the node n that receives it, over this module
 abbrev pub received_at : Setting → WorldAt → Option Module → Raw → ℕ → List Check

@@ -22,7 +22,7 @@ pub use laws::{
     worked_rows,
 };
 pub use node_out::NodeOut;
-pub use place::{Place, other_of, place_of};
+pub use place::{Place, other_of, place_of, sends_nm};
 pub use run_laws::{
     dropped_frames_leave_a_count, frames_are_stamped, frames_have_times, frames_may_come,
     frames_were_put_out, link_on_in_the_same_handshake, modules_stay, peers_stay_in_the_handshake,

@@ -2,8 +2,7 @@
 ghost use Rattle.std.specs.Prelude.{◌≡◌, ◌<◌, length, IfSome};
 ghost use Rattle.wrp_base.specs.Link.{other_of};
 ghost use Rattle.wrp_config.specs.Names as names;
-ghost use Rattle.wrp_course.specs.Setting.{place_among};
-ghost use Rattle.wrp_course.specs.Setting.{across};
+ghost use Rattle.wrp_course.specs.Setting.{across, place_among, sends_nm};
 
 use wrp_base::Role;
 use wrp_network::{LinkCfg, NetCfg};
@@ -36,6 +35,16 @@ pub fn other_of(role: Role) -> Role
     match role {
         Role::Master => Role::Slave,
         Role::Slave => Role::Master,
+    }
+}
+
+/// The wavelength that an end of a link sends, in nm.
+pub fn sends_nm(role: Role, link: &LinkCfg) -> u16
+    ensures { result ≡ sends_nm role link.now }
+{
+    match role {
+        Role::Master => link.down_nm,
+        Role::Slave => link.up_nm,
     }
 }
 

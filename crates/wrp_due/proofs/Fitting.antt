@@ -17,6 +17,7 @@ use Rattle.wrp_base.specs.declared.message.PtpMsg.{PtpMsg}
 use Rattle.wrp_base.specs.declared.message.WrMsg.{WrMsg}
 use Rattle.wrp_base.specs.declared.time.Clock.{Clock}
 use Rattle.wrp_base.specs.declared.time.Clock.TheVariants.{Mhz125, Mhz62}
+use Rattle.wrp_base.specs.Clock.{steps_of_period}
 use Rattle.wrp_base.specs.declared.time.Raw.{Raw}
 use Rattle.wrp_base.specs.declared.time.Stamp.{Stamp}
 use Rattle.wrp_base.specs.declared.time.Ts.{Ts}
@@ -44,7 +45,8 @@ use Rattle.wrp_node.specs.declared.interface.Input.{Input}
 use Rattle.wrp_node.specs.declared.interface.Input.TheVariants as inputs
 use Rattle.wrp_node.specs.NodeAt.{NodeAt, NodeSetting, Taken, line_at, link_at, setting_of}
 use Rattle.wrp_frame.specs.Saying.{Says}
-use Rattle.wrp_node.specs.NodeStep.{heard_unless, message_of, node_step, servo_ticked, stepped, tick_of, transition_of}
+use Rattle.wrp_node.specs.NodeStep.{heard_unless, message_of, node_step, servo_ticked, stepped, tick_of}
+use Rattle.wrp_stamp.specs.Merge.{transition_of, merged, periods_at, place_of, quarter_of}
 use Rattle.wrp_port.specs.declared.interface.PortIn.{PortIn}
 use Rattle.wrp_port.specs.declared.interface.PortIn.TheVariants.{Msg, Lease, Tick, Sent, Carrier, Sample, Chain, Reset}
 use Rattle.wrp_port.specs.declared.line.Rest.{Rest}
@@ -56,7 +58,6 @@ use Rattle.wrp_port.specs.Messages.{announce_flags, announce_of, follow_up_of, h
 use Rattle.wrp_port.specs.Outputs.{is_newest, link_sends, response_to, scheduled_sends, sends_of, sends_unless, where_due}
 use Rattle.wrp_port.specs.PortAt.{IsFit, IsStamp}
 use Rattle.wrp_port.specs.Wire.{corrected_by, rest_of}
-use Rattle.wrp_stamp.specs.Merge.{merged, periods_at, place_of, quarter_of}
 use Rattle.wrp_tlv.specs.Octets.{number_at}
 use Rattle.wrp_tlv.proofs.ReadBack.{message_read_back, suffix_read_back}
 use Rattle.wrp_tlv.specs.WhiteRabbit.{FitsOctets}
@@ -346,8 +347,8 @@ message_fits : (fixed : NodeSetting) (n : NodeAt) (p : ℕ) (octets : List ℕ) 
     → PortFits (message_of fixed n p m raw sample)
 message_fits fixed n p octets m raw sample spells small is = (
   spelled_is_sound octets (Ok m) small spells,
-  natural_stamp (merged fixed.set.servo.clock raw (transition_of (link_at fixed.set n p).own_module)) sample
-      (merged_small fixed.set.servo.clock raw (transition_of (link_at fixed.set n p).own_module) is),
+  natural_stamp (merged fixed.set.servo.clock raw (transition_of (link_at fixed.set n p).own_module % steps_of_period)) sample
+      (merged_small fixed.set.servo.clock raw (transition_of (link_at fixed.set n p).own_module % steps_of_period) is),
   spelled_reply octets m small spells,
 )
 

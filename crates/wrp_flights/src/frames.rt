@@ -96,7 +96,8 @@ impl Frames {
         self.kept.len()
     }
 
-    /// The frame on a fibre that is due first, with that time; the least number among equals.
+    /// The frame on a fibre that is due first, with that time; the least number among equals. None
+    /// exactly where no frame is on a fibre.
     pub fn next_due(&self) -> Option<(u32, Tau)>
         ensures { IsFirst self.now.kept result }
     {
@@ -166,8 +167,8 @@ impl Frames {
         settle(&self.kept, &mut self.dues);
     }
 
-    /// A frame that departs gets the next number, if there is one. All memory is taken before anything
-    /// changes: where it could not be had, nothing does.
+    /// A frame that departs gets the next number, if there is one. All memory is taken before
+    /// anything changes: `AllocError` where it could not be had, and then nothing does.
     pub fn push(&mut self, frame: Option<Departed>) -> Result<(), AllocError>
         requires on { IfSome frame (λ d. is_on d ≡ true) }
         requires few { length self.old.sent + 1 < 2 ^ 32 }

@@ -46,7 +46,8 @@ pub fn settle(kept: &BTreeMap<u32, Departed>, dues: &mut BTreeSet<(Tau, u32)>)
     }
 }
 
-/// The frame on a fibre that is due first, with that time; the least number among equals.
+/// The frame on a fibre that is due first, with that time; the least number among equals. None
+/// exactly where no frame is on a fibre.
 pub fn next_due(dues: &BTreeSet<(Tau, u32)>) -> Option<(u32, Tau)>
     ensures { (sent : List ℤ) (kept : List (ℕ × DepartedAt)) → Orders sent kept dues.now.keys → IsFirst kept result }
 {

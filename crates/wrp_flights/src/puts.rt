@@ -11,8 +11,9 @@ use std::alloc::AllocError;
 use std::collections::{BTreeMap, BTreeSet};
 use wrp_base::Tau;
 
-/// A frame that was put out at this time is kept under a number, and listed by its age. Where memory for
-/// one of both could not be had, neither is so.
+/// A frame that was put out at this time is kept under a number, and listed by its age.
+/// `AllocError` where memory for one of both could not be had: then the frames are as before, and
+/// the list of ages has no more than before.
 pub fn keep(
     kept: &mut BTreeMap<u32, Departed>,
     ages: &mut BTreeSet<(Tau, u32)>,
@@ -36,8 +37,9 @@ pub fn keep(
     }
 }
 
-/// The same of a frame, which is listed by the time at which it is due, too. Where memory for one of the three
-/// could not be had, none of them is so.
+/// The same of a frame, which is listed by the time at which it is due, too. `AllocError` where
+/// memory for one of the three could not be had: then the frames are as before, and neither list
+/// has more than before.
 pub fn keep_due(
     kept: &mut BTreeMap<u32, Departed>,
     ages: &mut BTreeSet<(Tau, u32)>,

@@ -1,10 +1,12 @@
 //! Why octets are no message, in the order in which the causes are told.
+ghost use Rattle.std.specs.Prelude.{◌≡◌, ◌≤◌};
+ghost use Rattle.wrp_frame.specs.Faults.{fault_number};
 
 /// The first cause, in the order below, that octets are not a message which a node reads.
 #[derive(Clone, Copy, Debug, PartialEq, Eq)]
 pub enum FrameFault {
     /// 1: there are fewer than the 34 octets of a header.
-    Short,
+    Short = 1,
     /// 2: versionPTP is not 2.
     Version,
     /// 3: messageType is none that is read.
@@ -19,4 +21,15 @@ pub enum FrameFault {
     BadWr,
     /// 8: a Sync without twoStepFlag.
     OneStep,
+}
+
+impl FrameFault {
+    /// The number of the fault: 1 to 8.
+    pub fn number(self) -> u8
+        ensures value { result ≡ fault_number self }
+        ensures at_least { 1 ≤ result }
+        ensures at_most { result ≤ 8 }
+    {
+        self as u8
+    }
 }

@@ -168,7 +168,7 @@ impl L1Port {
         (self.turn + 1) % self.interval
     }
 
-    /// The message that the next tick makes the port send.
+    /// The message that the next tick makes the port send. None where it sends none.
     pub fn due(&self) -> Option<L1Msg>
         ensures { result ≡ due_by self.now }
     {

@@ -12,7 +12,7 @@ use wrp_config::Network;
 use wrp_records::append_words;
 
 /// The line of a counter at a port of the node, with its LF. `reason` is the number of the reason,
-/// 1 to 15. The error is want of memory.
+/// 1 to 15. `AllocError` where there is no memory for it.
 pub fn count_line(
     alloc: Global,
     net: &Network,
@@ -33,8 +33,9 @@ pub fn count_line(
     Ok(line)
 }
 
-/// Appends to `text` the line of a counter of the node with this name. `reason` is the number of the
-/// reason, 1 to 15. Where there is no memory for the line, `text` keeps its octets.
+/// Appends to `text` the line of a counter of the node with this name. `reason` is the number of
+/// the reason, 1 to 15. `AllocError` where there is no memory for the line: `text` keeps its
+/// octets.
 pub fn append_count_line(
     name: &str,
     port: u16,

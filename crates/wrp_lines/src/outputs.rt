@@ -18,8 +18,8 @@ use wrp_network::NetCfg;
 use wrp_node::{Output, Report};
 use wrp_records::append_words;
 
-/// The line of an output that the node gave at this tick, with its LF. `truth` is the true offset in
-/// tau, where it is known. The error is want of memory.
+/// The line of an output that the node gave at this tick, with its LF. `truth` is the true offset
+/// in tau, where it is known. `AllocError` where there is no memory for it.
 pub fn output_line(
     alloc: Global,
     net: &Network,
@@ -38,8 +38,8 @@ pub fn output_line(
     Ok(line)
 }
 
-/// Appends to `text` the line that `output_line` gives. Where there is no memory for it, `text` keeps
-/// its octets.
+/// Appends to `text` the line that `output_line` gives. `AllocError` where there is no memory for
+/// it: `text` keeps its octets.
 pub fn append_output_line(
     alloc: Global,
     net: &Network,
@@ -73,8 +73,8 @@ fn bound_of(cfg: &NetCfg, node: u8) -> Tau
 }
 
 /// Appends to `text` the line of an output of the node with this name, whose bound in TRACK is
-/// `bound`, in tau: so a run finds out a node's bound once, and not at each line. Where there is no
-/// memory for the line, `text` keeps its octets.
+/// `bound`, in tau: so a run finds out a node's bound once, and not at each line. `AllocError`
+/// where there is no memory for the line: `text` keeps its octets.
 pub fn append_line(
     alloc: Global,
     name: &str,

@@ -6,18 +6,18 @@ use Rattle.arrayvec.specs.ArrayVec.{ArrayVec}
 use Rattle.wrp_io.specs.declared.link.LinkCall.{LinkCall}
 use Rattle.wrp_io.specs.declared.link.LinkCall.TheVariants.{Send, Receive}
 use Rattle.wrp_io.specs.Link.{answered, frame_of}
-use Rattle.wrp_loop.specs.Calls.{Adds, AreCutCalls, AreCutTaken, IsFrame, IsFrameCall, receptions, taken_calls}
+use Rattle.wrp_loop.specs.Calls.{Grew, AreCutCalls, AreCutTaken, IsFrame, IsFrameCall, receptions, taken_calls}
 
 -- one call after others
-pub adds_one : (before mid now : Option (List LinkCall)) (calls : List LinkCall) (call : LinkCall) → Adds before mid calls →
-    now ≡ option_map (λ told. told ++ call ∷ []) mid → Adds before now (calls ++ call ∷ [])
+pub adds_one : (before mid now : Option (List LinkCall)) (calls : List LinkCall) (call : LinkCall) → Grew before mid calls →
+    now ≡ option_map (λ told. told ++ call ∷ []) mid → Grew before now (calls ++ call ∷ [])
 adds_one None mid now calls call a e = e ∙ ap (option_map (λ told. told ++ call ∷ [])) a
 adds_one (Some told) mid now calls call a e =
     e ∙ (ap (option_map (λ more. more ++ call ∷ [])) a ∙ ap Some (append_assoc told calls (call ∷ [])))
 
 -- one call before others
 pub adds_first : (before mid now : Option (List LinkCall)) (call : LinkCall) (calls : List LinkCall) →
-    mid ≡ option_map (λ told. told ++ call ∷ []) before → Adds mid now calls → Adds before now (call ∷ calls)
+    mid ≡ option_map (λ told. told ++ call ∷ []) before → Grew mid now calls → Grew before now (call ∷ calls)
 adds_first None mid now call calls e a = a ∙ ap (option_map (λ told. told ++ calls)) e
 adds_first (Some told) mid now call calls e a =
     a ∙ (ap (option_map (λ more. more ++ calls)) e ∙ ap Some (append_assoc told (call ∷ []) calls))
@@ -56,8 +56,8 @@ told_some to false frame before now h e = absurd (let f : false ≡ true = h in 
 -- a sending, and then receptions that were cut off
 pub cut_more : {T E : Type 0} (result : Result T E) (from to : ℕ) (octets : List ℕ) (before mid now : Option (List LinkCall)) →
     mid ≡ option_map (λ told. told ++ Send from (frame_of octets) ∷ []) before →
-    OnErr result ((calls : List LinkCall) × Adds mid now calls × AreCutTaken to calls × AllByRecursion IsFrameCall calls) →
-    OnErr result ((calls : List LinkCall) × Adds before now calls × AreCutCalls from to octets calls × AllByRecursion IsFrameCall calls)
+    OnErr result ((calls : List LinkCall) × Grew mid now calls × AreCutTaken to calls × AllByRecursion IsFrameCall calls) →
+    OnErr result ((calls : List LinkCall) × Grew before now calls × AreCutCalls from to octets calls × AllByRecursion IsFrameCall calls)
 cut_more (Ok value) from to octets before mid now e h = tt
 cut_more (Err fault) from to octets before mid now e h = (
   Send from (frame_of octets) ∷ h.0,
@@ -78,7 +78,7 @@ all_received to (suc room) [] all = (tt, tt)
 all_received to (suc room) (frame ∷ got) all = (all.0, all_received to room got all.1)
 
 -- receptions that were cut off
-pub cut_taken : {T E : Type 0} (result : Result T E) (to : ℕ) (got : List (ArrayVec ℕ)) (before mid now : Option (List LinkCall)) → Adds before mid (taken_calls to got) → now ≡ mid → length got < 16 → AllByRecursion IsFrame got →
-    OnErr result ((calls : List LinkCall) × Adds before now calls × AreCutTaken to calls × AllByRecursion IsFrameCall calls)
+pub cut_taken : {T E : Type 0} (result : Result T E) (to : ℕ) (got : List (ArrayVec ℕ)) (before mid now : Option (List LinkCall)) → Grew before mid (taken_calls to got) → now ≡ mid → length got < 16 → AllByRecursion IsFrame got →
+    OnErr result ((calls : List LinkCall) × Grew before now calls × AreCutTaken to calls × AllByRecursion IsFrameCall calls)
 cut_taken (Ok value) to got before mid now adds same few all = tt
 cut_taken (Err fault) to got before mid now adds same few all = (taken_calls to got, same ∙ adds, record { got = got; few = few; are = refl }, all_taken to got all)

@@ -16,7 +16,7 @@ use Rattle.wrp_sim.specs.Sim.{FitsSim, SimIs}
 use Rattle.wrp_loop.specs.declared.network.LoopCourse.{LoopCourse}
 use Rattle.wrp_loop.specs.declared.network.LoopedNetwork.{LoopedNetwork}
 use Rattle.wrp_loop.specs.declared.routes.Route.{Route}
-use Rattle.wrp_loop.specs.Calls.{Adds, AreCutCalls, IsFrame, IsFrameCall, arrival_calls}
+use Rattle.wrp_loop.specs.Calls.{Grew, AreCutCalls, IsFrame, IsFrameCall, arrival_calls}
 use Rattle.wrp_loop.specs.Datagrams.{IsWayOf, Way, end_number, receiving_end, sending_end}
 use Rattle.wrp_loop.specs.Index.{Forgets, IsIndex, came_at}
 use Rattle.wrp_loop.specs.LoopRun.{Carried, FrameArrives, GivesNext, HandlesAll, LoopAt, On, Plan, events_at, happened, with_event, world_at}
@@ -145,7 +145,7 @@ round_came post x old new course next l e number raw f route got goes before tol
 -- where there was no memory
 pub calls_made : {F : Type 0} (post : F → ℤ → ℤ → Type 0) (x : Plan) (old : LoopedNetwork F) (course : LoopCourse) (l : LoopAt) (e : Event) (number : ℕ) (raw : Raw) (f : FrameAt) (route : Route) (got : List (ArrayVec ℕ)) (before told : Option (List LinkCall)) →
     e ≡ Arrive number raw → course.events + 1 < event_limit → length got ≤ 16 → HasNext post x old course l e → Flies (world_at x l) x.setting number f → Exchanged x.setting f route got before told →
-    (calls : List LinkCall) × Adds before told calls × ArrivalCalls x l calls × AllByRecursion IsFrameCall calls
+    (calls : List LinkCall) × Grew before told calls × ArrivalCalls x l calls × AllByRecursion IsFrameCall calls
 calls_made post x old course l e number raw f route got before told same room few n flies ex = (
   arrival_calls (sending_end (way_by f route)) (receiving_end (way_by f route)) (octets_of f.sending.message) got,
   ex.calls,
@@ -181,16 +181,16 @@ call_failed post x old course l e number raw f before told same room n flies cut
 
 -- The calls of an arrival, of what the code has of its way
 
-pub exchanged_so : (s : Setting) (f : FrameAt) (route : Route) (octets : List ℕ) (got : List (ArrayVec ℕ)) (before told : Option (List LinkCall)) → IsRouteOf s f route → octets ≡ octets_of f.sending.message → Adds before told (arrival_calls route.from route.to octets got) →
+pub exchanged_so : (s : Setting) (f : FrameAt) (route : Route) (octets : List ℕ) (got : List (ArrayVec ℕ)) (before told : Option (List LinkCall)) → IsRouteOf s f route → octets ≡ octets_of f.sending.message → Grew before told (arrival_calls route.from route.to octets got) →
     AllByRecursion IsFrame got → Exchanged s f route got before told
 exchanged_so s f route octets got before told routes same adds frames = record {
   routes = routes;
   frames = frames;
-  calls = subst (Adds before told) (λ i. arrival_calls (routes.from_is i) (routes.to_is i) (same i) got) adds;
+  calls = subst (Grew before told) (λ i. arrival_calls (routes.from_is i) (routes.to_is i) (same i) got) adds;
 }
 
 pub cut_off_so : (s : Setting) (f : FrameAt) (route : Route) (octets : List ℕ) (before told : Option (List LinkCall)) → IsRouteOf s f route → octets ≡ octets_of f.sending.message →
-    (calls : List LinkCall) × Adds before told calls × AreCutCalls route.from route.to octets calls × AllByRecursion IsFrameCall calls → CutOff f before told
+    (calls : List LinkCall) × Grew before told calls × AreCutCalls route.from route.to octets calls × AllByRecursion IsFrameCall calls → CutOff f before told
 cut_off_so s f route octets before told routes same it = record {
   calls = it.0;
   adds = it.1;
@@ -225,7 +225,7 @@ carried_round post sim x old new kept next l e number raw route got goes before 
 
 pub lacking_round : {F : Type 0} (post : F → ℤ → ℤ → Type 0) → EventsAreAccepted → (x : Plan) (old : LoopedNetwork F) (kept : LoopCourse) (l : LoopAt) (e : Event) (number : ℕ) (raw : Raw) (route : Route) (got : List (ArrayVec ℕ)) (before told : Option (List LinkCall)) →
     e ≡ Arrive number raw → kept.events + 1 < event_limit → length got ≤ 16 → HasNext post x old kept l e → ExchangedBy post old.world number route got before told →
-    (calls : List LinkCall) × Adds before told calls × ArrivalCalls x l calls × AllByRecursion IsFrameCall calls
+    (calls : List LinkCall) × Grew before told calls × ArrivalCalls x l calls × AllByRecursion IsFrameCall calls
 lacking_round post sim x old kept l e number raw route got before told same room few n exchanged =
     let it : NextFlies x l number = next_flies post sim x old kept l e number raw same n in
     calls_made post x old kept l e number raw it.frame route got before told same room few n it.flies (exchanged x.setting (world_at x l) it.frame n.has.stands n.has.net it.flies)

@@ -20,7 +20,7 @@ use Rattle.wrp_loop.specs.declared.network.LoopCourse.{LoopCourse}
 use Rattle.wrp_loop.specs.declared.network.LoopedNetwork.{LoopedNetwork}
 use Rattle.wrp_loop.specs.declared.outcome.LoopFault.{LoopFault}
 use Rattle.wrp_loop.specs.declared.outcome.LoopFault.TheVariants as faults
-use Rattle.wrp_loop.specs.Calls.{Adds}
+use Rattle.wrp_loop.specs.Calls.{Grew}
 use Rattle.wrp_loop.specs.Index.{IsIndex}
 use Rattle.wrp_loop.specs.LoopEnds.{NextIsTooMany}
 use Rattle.wrp_loop.specs.LoopRun.{Dropped, GivesNext, IsCounted, IsPlain, LoopAt, Plain, Plan, events_at, without_frame, world_at}
@@ -165,7 +165,7 @@ fewer_left network e old mid new hands same sim moves fits =
 
 -- Rounds
 
-pub adds_none : (told : Option (List LinkCall)) → Adds told told []
+pub adds_none : (told : Option (List LinkCall)) → Grew told told []
 adds_none None = refl
 adds_none (Some calls) = ap Some (sym (append-nil calls))
 

@@ -9,7 +9,7 @@ use Rattle.wrp_course.specs.Views.{octets_at}
 use Rattle.wrp_course.specs.WorldAt.{FrameAt, WorldAt}
 use Rattle.wrp_world.specs.StandsFor.{StandsFor, Tells, WorldOf}
 use Rattle.wrp_loop.specs.declared.routes.Route.{Route}
-use Rattle.wrp_loop.specs.Calls.{Adds, AreCutCalls, IsFrame, IsFrameCall, arrival_calls}
+use Rattle.wrp_loop.specs.Calls.{Grew, AreCutCalls, IsFrame, IsFrameCall, arrival_calls}
 use Rattle.wrp_loop.specs.LoopStands.{CutOffBy, ExchangedBy, Flies, RoutesFrame, SomeFlies}
 use Rattle.wrp_loop.proofs.Arrivals.{cut_off_so, exchanged_so}
 use Rattle.wrp_loop.proofs.Ways.{octets_few, octets_fit, octets_there}
@@ -31,11 +31,11 @@ few_octets post world number octets h told =
     subst (λ (o : List ℕ). length o ≤ 256) (sym (octets_fit h.0 h.1 number h.2 octets h.5 (told h.0 h.1 h.3))) (octets_few h.2.sending.message)
 
 pub exchanged_by : {F : Type 0} (post : F → ℤ → ℤ → Type 0) (world : WorldOf F) (number : ℕ) (route : Route) (octets : List ℕ) (got : List (ArrayVec ℕ)) (before told : Option (List LinkCall)) → RoutesOf post world number (Some route) → OctetsOf post world number (Some octets) →
-    Adds before told (arrival_calls route.from route.to octets got) → AllByRecursion IsFrame got → ExchangedBy post world number route got before told
+    Grew before told (arrival_calls route.from route.to octets got) → AllByRecursion IsFrame got → ExchangedBy post world number route got before told
 exchanged_by post world number route octets got before told routes octets_are adds frames = λ s w f stands net flies.
     exchanged_so s f route octets got before told (routes s w f stands net flies) (octets_fit s w number f octets flies (octets_are s w stands)) adds frames
 
 pub cut_off_by : {F : Type 0} (post : F → ℤ → ℤ → Type 0) (world : WorldOf F) (number : ℕ) (route : Route) (octets : List ℕ) (before told : Option (List LinkCall)) → RoutesOf post world number (Some route) → OctetsOf post world number (Some octets) →
-    (calls : List LinkCall) × Adds before told calls × AreCutCalls route.from route.to octets calls × AllByRecursion IsFrameCall calls → CutOffBy post world number before told
+    (calls : List LinkCall) × Grew before told calls × AreCutCalls route.from route.to octets calls × AllByRecursion IsFrameCall calls → CutOffBy post world number before told
 cut_off_by post world number route octets before told routes octets_are cut = λ s w f stands net flies.
     cut_off_so s f route octets before told (routes s w f stands net flies) (octets_fit s w number f octets flies (octets_are s w stands)) cut

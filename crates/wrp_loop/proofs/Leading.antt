@@ -19,7 +19,7 @@ use Rattle.wrp_loop.specs.declared.outcome.LoopFault.{LoopFault}
 use Rattle.wrp_loop.specs.declared.outcome.LoopFault.TheVariants as faults
 use Rattle.wrp_loop.specs.declared.outcome.Rounded.{Rounded}
 use Rattle.wrp_loop.specs.declared.outcome.Rounded.TheVariants as rounded
-use Rattle.wrp_loop.specs.Calls.{Adds, IsFrameCall}
+use Rattle.wrp_loop.specs.Calls.{Grew, IsFrameCall}
 use Rattle.wrp_loop.specs.LoopEnds.{EndsLarge, EndsOver}
 use Rattle.wrp_loop.specs.LoopRun.{Full, Goes, Going, IsRound, LoopAt, Loops, On, Plan, Round, events_at, loop_start, place}
 use Rattle.wrp_loop.specs.LoopStands.{ArrivalFails, FitsCourse, Grows, RoundCame, StandsAt}
@@ -29,7 +29,7 @@ use Rattle.wrp_loop.proofs.Listing.{none_arrived}
 
 -- Calls, one after the other
 
-pub adds_more : (before mid now : Option (List LinkCall)) (first others : List LinkCall) → Adds before mid first → Adds mid now others → Adds before now (first ++ others)
+pub adds_more : (before mid now : Option (List LinkCall)) (first others : List LinkCall) → Grew before mid first → Grew mid now others → Grew before now (first ++ others)
 adds_more None mid now first others a b = b ∙ ap (option_map (λ told. told ++ others)) a
 adds_more (Some told) mid now first others a b = b ∙ (ap (option_map (λ more. more ++ others)) a ∙ ap Some (append_assoc told first others))
 
@@ -90,7 +90,7 @@ stays_at : {F : Type 0} (post : F → ℤ → ℤ → Type 0) (Ends : Plan → L
 stays_at post Ends x old new course next before mid told written waits text h r ends = record {
   last = On h.at;
   calls = h.calls;
-  adds = subst (λ (t : Option (List LinkCall)). Adds before t h.calls) (sym r.calls) h.adds;
+  adds = subst (λ (t : Option (List LinkCall)). Grew before t h.calls) (sym r.calls) h.adds;
   frames = h.frames;
   ends = ends;
   is = ap (λ (t : List ℕ). written ++ t) r.text ∙ h.is;
@@ -180,7 +180,7 @@ ready_first pre post network course valid sim none h =
 
 -- it was started
 pub started : {F : Type 0} (pre : F → ℤ → Type 0) (post : F → ℤ → ℤ → Type 0) (x : Plan) (network : LoopedNetwork F) (course : LoopCourse) (ends : ℕ) (cfg : NetCfg) (before told : Option (List LinkCall)) → IsValid pre post network.world → ends ≡ 2 * link_count cfg → cfg ≡ network.world.plant.net.cfg →
-    Adds before told (Start ends ∷ []) → Begins post x network course → CameSoFar post x network course before told []
+    Grew before told (Start ends ∷ []) → Begins post x network course → CameSoFar post x network course before told []
 started pre post x network course ends cfg before told valid count same adds b = record {
   at = loop_start x;
   stands = begins_at pre post x network course valid b;
@@ -197,7 +197,7 @@ started pre post x network course ends cfg before told valid count same adds b =
   is = refl;
 }
 
-no_calls : (before told : Option (List LinkCall)) → told ≡ before → Adds before told []
+no_calls : (before told : Option (List LinkCall)) → told ≡ before → Grew before told []
 no_calls None told e = e
 no_calls (Some calls) told e = e ∙ ap Some (sym (append-nil calls))
 

@@ -16,7 +16,7 @@ use Rattle.wrp_loop.specs.declared.network.LoopedNetwork.{LoopedNetwork}
 use Rattle.wrp_loop.specs.declared.outcome.Rounded.{Rounded}
 use Rattle.wrp_loop.specs.declared.outcome.Rounded.TheVariants as rounded
 use Rattle.wrp_base.proofs.Lists.{all_append}
-use Rattle.wrp_loop.specs.Calls.{Adds, IsFrameCall}
+use Rattle.wrp_loop.specs.Calls.{Grew, IsFrameCall}
 use Rattle.wrp_loop.specs.Laws.{Ending, EndsAs, Large, Over}
 use Rattle.wrp_loop.specs.LoopEnds.{CallFails, EndsLarge, EndsOver}
 use Rattle.wrp_loop.specs.LoopRun.{Full, Going, LoopAt, Loops, On, Plan, events_at, place, world_at}
@@ -51,7 +51,7 @@ use Rattle.wrp_world.specs.New.{setting_of}
 use Rattle.wrp_world.specs.StandsFor.{IsValid, StandsFor, WorldOf}
 
 -- no calls leave what a link tells
-pub no_calls : (told : Option (List LinkCall)) → Adds told told []
+pub no_calls : (told : Option (List LinkCall)) → Grew told told []
 no_calls None = refl
 no_calls (Some calls) = ap Some (sym (append-nil calls))
 
@@ -72,7 +72,7 @@ lawful_here {post = post} net l world valid is stands laws =
 pub record Came {F : Type 0} (post : F → ℤ → ℤ → Type 0) (x : Plan) (network : LoopedNetwork F) (before told : Option (List LinkCall)) (text : List ℕ) : Type 0 where
   pub last : Going
   pub calls : List LinkCall
-  pub adds : Adds before told calls
+  pub adds : Grew before told calls
   pub loops : Loops x calls last
   pub frames : AllByRecursion IsFrameCall calls
   pub is : text ≡ loop_text x.setting (events_at (place last))
@@ -129,7 +129,7 @@ lacks s scene seed network before told held now written came law wrote = record 
 
 -- memory lacked in a round, behind lines that were written
 pub stops_short : (s : Setting) (scene : SceneAt) (seed : ℕ) (before told : Option (List LinkCall)) (held now : Option (List ℕ)) (written : List ℕ) (l : LoopAt) (calls : List LinkCall)
-    → Adds before told calls → ComesShort (plan_of s scene seed) calls l → AllByRecursion IsFrameCall calls → IsLawful s l → written ≡ loop_text s (events_at l) → Appends held now written → Ran s scene seed before told held now OutOfMemory
+    → Grew before told calls → ComesShort (plan_of s scene seed) calls l → AllByRecursion IsFrameCall calls → IsLawful s l → written ≡ loop_text s (events_at l) → Appends held now written → Ran s scene seed before told held now OutOfMemory
 stops_short s scene seed before told held now written l calls adds short frames law is wrote = record {
   calls = calls;
   text = written;
@@ -140,7 +140,7 @@ stops_short s scene seed before told held now written l calls adds short frames 
 
 -- a call failed in a round
 pub fails_so : (s : Setting) (scene : SceneAt) (seed : ℕ) (before told : Option (List LinkCall)) (held now : Option (List ℕ)) (written : List ℕ) (l : LoopAt) (calls : List LinkCall)
-    → Adds before told calls → CallFails (plan_of s scene seed) calls l → AllByRecursion IsFrameCall calls → IsLawful s l → written ≡ loop_text s (events_at l) → Appends held now written → Ran s scene seed before told held now LinkFault
+    → Grew before told calls → CallFails (plan_of s scene seed) calls l → AllByRecursion IsFrameCall calls → IsLawful s l → written ≡ loop_text s (events_at l) → Appends held now written → Ran s scene seed before told held now LinkFault
 fails_so s scene seed before told held now written l calls adds fails frames law is wrote = record {
   calls = calls;
   text = written;
@@ -209,7 +209,7 @@ unwritten s scene seed network before told held mid now written text came law wr
 
 -- the last lines are written behind the others, or a part of them
 ends_with : (s : Setting) (scene : SceneAt) (seed : ℕ) (before told : Option (List LinkCall)) (held mid now : Option (List ℕ)) (due status : Status) (written last : List ℕ) (calls : List LinkCall)
-    → Adds before told calls → Appends held mid written → Finishes due status mid now last
+    → Grew before told calls → Appends held mid written → Finishes due status mid now last
     → ((lines : List (List ℕ)) → IsScenario s lines scene → RanDue s seed lines calls due (written ++ last)) → ((lines : List (List ℕ)) → IsScenario s lines scene → RanSo s seed lines calls due (written ++ last))
     → Ran s scene seed before told held now status
 ends_with s scene seed before told held mid now due status written last calls adds wrote how part whole = elim (finishes_after due status held mid now written last wrote how) [
@@ -262,15 +262,15 @@ large_unlinked status before now waiting (inr (inr cut)) is = let both : WriteFa
 -- Before the first round
 
 -- there was no memory
-pub nothing_ran : (s : Setting) (scene : SceneAt) (seed : ℕ) (before told : Option (List LinkCall)) (held now : Option (List ℕ)) → Adds before told [] → Appends held now [] → Ran s scene seed before told held now OutOfMemory
+pub nothing_ran : (s : Setting) (scene : SceneAt) (seed : ℕ) (before told : Option (List LinkCall)) (held now : Option (List ℕ)) → Grew before told [] → Appends held now [] → Ran s scene seed before told held now OutOfMemory
 nothing_ran s scene seed before told held now adds wrote = record { calls = []; text = []; called = adds; wrote = wrote; so = λ lines said. inl (refl, refl) }
 
 -- the sink failed at the empty piece
-pub not_open : (s : Setting) (scene : SceneAt) (seed : ℕ) (before told : Option (List LinkCall)) (held now : Option (List ℕ)) → Adds before told [] → Appends held now [] → Ran s scene seed before told held now WriteFault
+pub not_open : (s : Setting) (scene : SceneAt) (seed : ℕ) (before told : Option (List LinkCall)) (held now : Option (List ℕ)) → Grew before told [] → Appends held now [] → Ran s scene seed before told held now WriteFault
 not_open s scene seed before told held now adds wrote = record { calls = []; text = []; called = adds; wrote = wrote; so = λ lines said. inl (refl, refl) }
 
 -- the link did not start
-pub not_started : (s : Setting) (scene : SceneAt) (seed : ℕ) (before told : Option (List LinkCall)) (held now : Option (List ℕ)) → Adds before told [] → Appends held now [] → Ran s scene seed before told held now LinkFault
+pub not_started : (s : Setting) (scene : SceneAt) (seed : ℕ) (before told : Option (List LinkCall)) (held now : Option (List ℕ)) → Grew before told [] → Appends held now [] → Ran s scene seed before told held now LinkFault
 not_started s scene seed before told held now adds wrote = record { calls = []; text = []; called = adds; wrote = wrote; so = λ lines said. inl (refl, refl) }
 
 -- the sink took the empty piece, and the network ran

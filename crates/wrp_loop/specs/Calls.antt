@@ -17,8 +17,8 @@ IsFrameCall (Receive end (Some frame)) = IsFrame frame
 IsFrameCall _ = Unit {0}
 
 -- a link that told the first of these tells the second now: these calls came
-abbrev pub Adds : Option (List LinkCall) → Option (List LinkCall) → List LinkCall → Type 0
-Adds before now calls = now ≡ option_map (λ told. told ++ calls) before
+abbrev pub Grew : Option (List LinkCall) → Option (List LinkCall) → List LinkCall → Type 0
+Grew before now calls = now ≡ option_map (λ told. told ++ calls) before
 
 -- how many datagrams are taken at most at one arrival
 abbrev pub most_taken : ℕ

@@ -5,7 +5,7 @@ use Rattle.wrp_course.specs.Setting.{Setting}
 use Rattle.wrp_io.specs.declared.link.LinkCall.{LinkCall}
 use Rattle.wrp_loop.specs.declared.network.LoopCourse.{LoopCourse}
 use Rattle.wrp_loop.specs.declared.network.LoopedNetwork.{LoopedNetwork}
-use Rattle.wrp_loop.specs.Calls.{Adds}
+use Rattle.wrp_loop.specs.Calls.{Grew}
 use Rattle.wrp_loop.specs.LoopRun.{LoopAt, Plan}
 use Rattle.wrp_loop.specs.SoFar.{CameSoFar}
 use Rattle.wrp_records.specs.declared.status.Status.{Status}
@@ -57,7 +57,7 @@ pub record Ran (s : Setting) (scene : SceneAt) (seed : ℕ) (before told : Optio
     (status : Status) : Type 0 where
   pub calls : List LinkCall
   pub text : List ℕ
-  pub called : Adds before told calls
+  pub called : Grew before told calls
   pub wrote : Appends held now text
   pub so : (lines : List (List ℕ)) → IsScenario s lines scene → RanSo s seed lines calls status text
 
@@ -79,7 +79,7 @@ pub record LoopPasses (s : Setting) (seed : ℕ) (source sink : Passage (List �
   pub calls : List LinkCall
   pub taken : Consumes source.before source.now given
   pub wrote : Appends sink.before sink.now octets
-  pub called : Adds link.before link.now calls
+  pub called : Grew link.before link.now calls
   pub stands : LoopAfter s seed (held ++ given) ended calls status octets
   pub at_end : ended ≡ true → IsAtEnd source.now
   pub stays : had_ended ≡ true → ended ≡ true

@@ -26,7 +26,7 @@ use Rattle.wrp_world.specs.StandsFor.{IsValid, StandsFor, WorldOf}
 use Rattle.wrp_loop.specs.declared.network.LoopCourse.{LoopCourse}
 use Rattle.wrp_loop.specs.declared.network.LoopedNetwork.{LoopedNetwork}
 use Rattle.wrp_loop.specs.declared.routes.Route.{Route}
-use Rattle.wrp_loop.specs.Calls.{Adds, AreCutCalls, IsFrame, IsFrameCall, arrival_calls}
+use Rattle.wrp_loop.specs.Calls.{Grew, AreCutCalls, IsFrame, IsFrameCall, arrival_calls}
 use Rattle.wrp_loop.specs.Datagrams.{IsOfPeer, IsSuch, Way, end_number, receiving_end, sending_end}
 use Rattle.wrp_loop.specs.Index.{IsIndex}
 use Rattle.wrp_loop.specs.LoopRun.{ComesBetween, FrameArrives, GivesNext, Going, On, Full, Handles, HandlesAll, IsRound, LoopAt, Plan, PlainComes, Round, events_at, happened, with_event, world_at}
@@ -147,14 +147,14 @@ pub record Exchanged (s : Setting) (f : FrameAt) (route : Route) (got : List (Ar
     : Type 0 where
   pub routes : IsRouteOf s f route
   pub calls :
-      Adds before told
+      Grew before told
       (arrival_calls (end_number f.link f.by) (end_number f.link (other_of f.by)) (octets_of f.sending.message) got)
   pub frames : AllByRecursion IsFrame got
 
 -- and those that were cut off by one that failed
 pub record CutOff (f : FrameAt) (before told : Option (List LinkCall)) : Type 0 where
   pub calls : List LinkCall
-  pub adds : Adds before told calls
+  pub adds : Grew before told calls
   pub cut :
       AreCutCalls (end_number f.link f.by) (end_number f.link (other_of f.by)) (octets_of f.sending.message) calls
   pub frames : AllByRecursion IsFrameCall calls
@@ -262,7 +262,7 @@ pub record RoundCame {F : Type 0} (post : F → ℤ → ℤ → Type 0) (x : Pla
   pub round : Round
   pub calls : List LinkCall
   pub is : IsRound x l round calls (going goes now)
-  pub adds : Adds before told calls
+  pub adds : Grew before told calls
   pub frames : AllByRecursion IsFrameCall calls
   pub grows : Grows x l now old new
 
@@ -283,7 +283,7 @@ pub record ArrivalFails (x : Plan) (l : LoopAt) (before told : Option (List Link
   pub octets : List ℕ
   pub arrives : FrameArrives x l number way octets
   pub calls : List LinkCall
-  pub adds : Adds before told calls
+  pub adds : Grew before told calls
   pub cut : AreCutCalls (sending_end way) (receiving_end way) octets calls
   pub frames : AllByRecursion IsFrameCall calls
 

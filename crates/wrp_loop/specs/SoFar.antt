@@ -19,7 +19,7 @@ use Rattle.wrp_loop.specs.declared.outcome.Rounded.{Rounded}
 use Rattle.wrp_loop.specs.declared.outcome.Rounded.TheVariants as rounded
 use Rattle.wrp_loop.specs.declared.rounds.Coming.{Coming}
 use Rattle.wrp_loop.specs.declared.rounds.Coming.TheVariants as comings
-use Rattle.wrp_loop.specs.Calls.{Adds, IsFrameCall}
+use Rattle.wrp_loop.specs.Calls.{Grew, IsFrameCall}
 use Rattle.wrp_loop.specs.LoopEnds.{EndsLarge, EndsOver, LinkFailed, NextIsTooMany}
 use Rattle.wrp_loop.specs.LoopRun.{Going, On, IsPlain, LoopAt, Loops, Plan, events_at, place, world_at}
 use Rattle.wrp_loop.specs.LoopStands.{ArrivalCalls, ArrivalFails, CanLoop, FitsCourse, IsArrivalOf, IsInLoop, RoundCame, StandsAt}
@@ -61,7 +61,7 @@ pub record CameSoFar {F : Type 0} (post : F → ℤ → ℤ → Type 0) (x : Pla
   pub at : LoopAt
   pub stands : StandsAt post x network course at
   pub calls : List LinkCall
-  pub adds : Adds before told calls
+  pub adds : Grew before told calls
   pub frames : AllByRecursion IsFrameCall calls
   pub loops : Loops x calls (On at)
   pub is : text ≡ loop_text x.setting (events_at at)
@@ -71,7 +71,7 @@ pub record EndedSo {F : Type 0} (post : F → ℤ → ℤ → Type 0) (Ends : Pl
     (network : LoopedNetwork F) (course : LoopCourse) (before told : Option (List LinkCall)) (text : List ℕ) : Type 0 where
   pub last : Going
   pub calls : List LinkCall
-  pub adds : Adds before told calls
+  pub adds : Grew before told calls
   pub frames : AllByRecursion IsFrameCall calls
   pub ends : Ends x calls last
   pub is : text ≡ loop_text x.setting (events_at (place last))
@@ -82,7 +82,7 @@ pub record EndedSo {F : Type 0} (post : F → ℤ → ℤ → Type 0) (Ends : Pl
 -- a call of the link failed, and this is the text of the events before it
 pub record FailedSo (x : Plan) (before told : Option (List LinkCall)) (text : List ℕ) : Type 0 where
   pub calls : List LinkCall
-  pub adds : Adds before told calls
+  pub adds : Grew before told calls
   pub frames : AllByRecursion IsFrameCall calls
   pub failed : LinkFailed x calls text
 
@@ -102,7 +102,7 @@ StoppedShort x calls text =
 
 pub record StoppedSo (x : Plan) (before told : Option (List LinkCall)) (text : List ℕ) : Type 0 where
   pub calls : List LinkCall
-  pub adds : Adds before told calls
+  pub adds : Grew before told calls
   pub frames : AllByRecursion IsFrameCall calls
   pub stopped : StoppedShort x calls text
 
@@ -144,7 +144,7 @@ pub record RoundStays {F : Type 0} (post : F → ℤ → ℤ → Type 0) (x : Pl
 -- memory lacked in a round, before its calls or behind them
 pub record RoundLacks (x : Plan) (l : LoopAt) (before told : Option (List LinkCall)) : Type 0 where
   pub calls : List LinkCall
-  pub adds : Adds before told calls
+  pub adds : Grew before told calls
   pub frames : AllByRecursion IsFrameCall calls
   pub which : (calls ≡ []) ⊎ ArrivalCalls x l calls
 

@@ -4,7 +4,7 @@ ghost use Rattle.wrp_io.specs.declared.link.LinkCall.{LinkCall};
 ghost use Rattle.wrp_io.specs.Faults.{Rose};
 ghost use Rattle.std.specs.List.{AllByRecursion};
 ghost use Rattle.wrp_base.specs.Octets.{AreOctets};
-ghost use Rattle.wrp_loop.specs.Calls.{Adds, AreCutCalls, AreCutTaken, IsFrame, IsFrameCall, arrival_calls, receptions};
+ghost use Rattle.wrp_loop.specs.Calls.{Grew, AreCutCalls, AreCutTaken, IsFrame, IsFrameCall, arrival_calls, receptions};
 
 use arrayvec::ArrayVec;
 use wrp_base::Frame;
@@ -35,9 +35,9 @@ fn take_all<N: Link>(link: &mut N, to: u32) -> Result<Taken, Failed>
     ensures most { IfOk result (λ got. length got.items ≤ 16) }
     ensures frames { IfOk result (λ got. AllByRecursion IsFrame got.items) }
     ensures calls { IfOk result (λ got.
-        Adds (N.told link.old) (N.told link.new) (receptions to 16 got.items)) }
+        Grew (N.told link.old) (N.told link.new) (receptions to 16 got.items)) }
     ensures cut { OnErr result ((calls : List LinkCall)
-        × Adds (N.told link.old) (N.told link.new) calls × AreCutTaken to calls
+        × Grew (N.told link.old) (N.told link.new) calls × AreCutTaken to calls
         × AllByRecursion IsFrameCall calls) }
     ensures rose { OnErr result (Rose (N.faults link.old) (N.faults link.new)) }
     ensures kept { OnOk result (N.faults link.new ≡ N.faults link.old) }
@@ -54,15 +54,17 @@ fn take_all<N: Link>(link: &mut N, to: u32) -> Result<Taken, Failed>
     Ok(got)
 }
 
-/// Sends a frame's octets from an end, and takes what then waits at the other.
+/// Sends a frame's octets from an end, and takes what then waits at the other. At most 16 frames
+/// are taken. `Failed` where a call of the link failed: its count of faults rose, and the calls
+/// before that one were answered.
 pub fn exchange<N: Link>(link: &mut N, from: u32, to: u32, octets: &[u8]) -> Result<Taken, Failed>
     requires { length octets.now ≤ 256 }
     ensures most { IfOk result (λ got. length got.items ≤ 16) }
     ensures frames { IfOk result (λ got. AllByRecursion IsFrame got.items) }
     ensures calls { IfOk result (λ got.
-        Adds (N.told link.old) (N.told link.new) (arrival_calls from to octets.now got.items)) }
+        Grew (N.told link.old) (N.told link.new) (arrival_calls from to octets.now got.items)) }
     ensures cut { OnErr result ((calls : List LinkCall)
-        × Adds (N.told link.old) (N.told link.new) calls × AreCutCalls from to octets.now calls
+        × Grew (N.told link.old) (N.told link.new) calls × AreCutCalls from to octets.now calls
         × AllByRecursion IsFrameCall calls) }
     ensures rose { OnErr result (Rose (N.faults link.old) (N.faults link.new)) }
     ensures kept { OnOk result (N.faults link.new ≡ N.faults link.old) }

@@ -13,8 +13,9 @@ use wrp_base::{Frame, Raw};
 use wrp_scene::LAST_EVENT;
 use wrp_world::Event;
 
-/// A frame that has arrived is handed over, unless its event has too great a number. Answers whether the
-/// loop goes on.
+/// A frame that has arrived is handed over, unless its event has too great a number. Answers
+/// whether the loop goes on. `AllocError` where there is no memory: then nothing is known of
+/// `text`, nor how far the event came, and the loop ends.
 pub fn deliver<F: Fn(i64) -> i64>(
     alloc: Global,
     network: &mut LoopedNetwork<F>,
@@ -73,8 +74,9 @@ fn noise_of(route: Route, frame: &Frame) -> Event
     }
 }
 
-/// Octets come at the end of a route that its peer did not send, unless their event has too great a number.
-/// Answers whether the loop goes on.
+/// Octets come at the end of a route that its peer did not send, unless their event has too great a
+/// number. Answers whether the loop goes on. `AllocError` where there is no memory: then nothing is
+/// known of `text`, nor how far the event came, and the loop ends.
 pub fn sound<F: Fn(i64) -> i64>(
     alloc: Global,
     network: &mut LoopedNetwork<F>,

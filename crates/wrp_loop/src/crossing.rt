@@ -18,8 +18,9 @@ pub struct Crossing {
     pub got: Taken,
 }
 
-/// Sends the octets of a frame that is on its fibre as a datagram, and takes what then waits where it
-/// arrives.
+/// Sends the octets of a frame that is on its fibre as a datagram, and takes what then waits where
+/// it arrives. `Failed` where a call of the link failed: its count of faults rose, and the calls
+/// before that one were answered.
 pub fn cross<F: Fn(i64) -> i64, N: Link>(
     world: &World<F>,
     link: &mut N,

@@ -157,8 +157,9 @@ impl Index {
         }
     }
 
-    /// The frame that a datagram with these octets is, which came from this end: the least that was not
-    /// handed over yet, or else the greatest.
+    /// The frame that a datagram with these octets is, which came from this end: the least that was
+    /// not handed over yet, or else the greatest. None where no frame that arrived from there has
+    /// these octets.
     pub fn find<F: Fn(i64) -> i64>(&self, world: &World<F>, from: u32, octets: &[u8]) -> Option<u32>
         ensures { Tells F.post (λ s w. chosen (with_all (fits s w from octets.now)
             (has_number self.now.handed.items) self.now.came.items no_choice)) world.now result }
@@ -181,7 +182,9 @@ impl Index {
         forget_first(world, &mut self.handed);
     }
 
-    /// A frame arrived that was sent from this end.
+    /// A frame arrived that was sent from this end. `AllocError` where there is no memory to keep
+    /// it: the frames that were handed over are as before, and nothing is known of those that
+    /// arrived.
     pub fn arrive(&mut self, number: u32, from: u32) -> Result<(), AllocError>
         ensures came { OnOk result (self.new.came.items
             ≡ self.old.came.items ++ came_at number from ∷ []) }
@@ -191,7 +194,9 @@ impl Index {
         Ok(())
     }
 
-    /// A frame is handed over that was sent from this end.
+    /// A frame is handed over that was sent from this end. `AllocError` where there is no memory to
+    /// keep it: the frames that arrived are as before, and nothing is known of those that were
+    /// handed over.
     pub fn hand(&mut self, number: u32, from: u32) -> Result<(), AllocError>
         ensures handed { OnOk result (self.new.handed.items
             ≡ self.old.handed.items ++ came_at number from ∷ []) }

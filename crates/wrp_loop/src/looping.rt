@@ -25,7 +25,8 @@ fn end_count(net: &Network) -> u32
 
 /// Starts the link of a loop, before its first round: with two ends for each link of the network.
 ///
-/// Where it fails, or there is no memory for it, no call of it was answered.
+/// `Failed` where it fails, and its count of faults rose; `Memory` where there is no memory for it.
+/// In both cases no call of it was answered.
 pub fn start_loop<F: Fn(i64) -> i64, N: Link>(
     network: &LoopedNetwork<F>,
     course: &LoopCourse,

@@ -53,7 +53,8 @@ pub struct LoopCourse {
 }
 
 impl LoopCourse {
-    /// Before the first event of a network.
+    /// Before the first event of a network. `AllocError` where there is no memory for it: nothing
+    /// is made.
     pub fn new(
         alloc: Global,
         net: &Network,
@@ -82,7 +83,8 @@ impl LoopCourse {
 }
 
 impl<F: Fn(i64) -> i64> LoopedNetwork<F> {
-    /// A network before its first event, with the laws of the links above its nodes.
+    /// A network before its first event, with the laws of the links above its nodes. `AllocError`
+    /// where there is no memory for it: no network is made.
     pub fn new(
         alloc: Global,
         net: Network,
@@ -107,6 +109,8 @@ impl<F: Fn(i64) -> i64> LoopedNetwork<F> {
     }
 
     /// Takes an event that keeps all premises, and appends its line and what its steps put out.
+    /// `AllocError` where there is no memory: then nothing is known of `text`, nor whether the
+    /// event was taken.
     pub fn happen(
         &mut self,
         alloc: Global,

@@ -41,7 +41,8 @@ fn come<F: Fn(i64) -> i64>(
     Ok(())
 }
 
-/// It comes, unless it has too great a number. No call of the link is made.
+/// It comes, unless it has too great a number. No call of the link is made. `Memory` where there is
+/// no memory: then the loop ends, and what `text` got is of no use. It is never `Failed`.
 pub fn come_next<F: Fn(i64) -> i64>(
     alloc: Global,
     network: &mut LoopedNetwork<F>,

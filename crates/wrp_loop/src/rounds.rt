@@ -111,7 +111,9 @@ fn take_next<F: Fn(i64) -> i64, N: Link>(
     }
 }
 
-/// The next event of the simulator, and what comes of it.
+/// The next event of the simulator, and what comes of it. `Failed` where a call of the link failed:
+/// the round came to nothing, and `text` is as it was. `Memory` where there is no memory: the loop
+/// ends, and what `text` got is of no use.
 pub fn next_round<F: Fn(i64) -> i64, N: Link>(
     alloc: Global,
     network: &mut LoopedNetwork<F>,

@@ -32,7 +32,8 @@ fn append_node<F: Fn(i64) -> i64>(
     append_counts(replayed, name, world.node(node), text)
 }
 
-/// Appends those of all nodes.
+/// Appends those of all nodes. `AllocError` where there is no memory: then nothing is known of
+/// `text`.
 pub fn append_all_counts<F: Fn(i64) -> i64>(
     world: &World<F>,
     text: &mut Vec<u8>,

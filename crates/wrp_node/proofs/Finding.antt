@@ -1,5 +1,5 @@
 -- The port of a number among the ports of a node.
-use Rattle.std.proofs.Common.{◌≡◌, ◌∙◌, refl, ap, ap₂, sym, subst, ℕ, ◌==◌, nat_lt, Bool, true, false, ◌||◌, List, [], ◌∷◌, Option, None, Some, is_some, IfSome, arith}
+use Rattle.std.proofs.Common.{◌≡◌, ◌∙◌, refl, ap, ap₂, sym, subst, ℕ, ◌%◌, ◌==◌, nat_lt, Bool, true, false, ◌||◌, List, [], ◌∷◌, Option, None, Some, is_some, IfSome, arith}
 use Rattle.std.proofs.lemmas.Bool.{eqb-true}
 use Rattle.std.specs.List.{AllByRecursion}
 use Rattle.wrp_data.specs.Counters.{count_at}
@@ -8,7 +8,8 @@ use Rattle.wrp_node.specs.declared.parts.Parts.{Parts}
 use Rattle.wrp_node.specs.declared.place.PortPlace.{PortPlace}
 use Rattle.wrp_node.specs.Inputs.{lease_in, deltas_in as deltas_of_place, transition_in, word_in, times_in}
 use Rattle.wrp_node.specs.NodeAt.{NodeSetting, NodeAt, slave_of, setting_of, port_of, link_at, is_fresh_at, deltas_at}
-use Rattle.wrp_node.specs.NodeStep.{transition_of}
+use Rattle.wrp_base.specs.Clock.{steps_of_period}
+use Rattle.wrp_stamp.specs.Merge.{transition_of}
 use Rattle.wrp_node.specs.Parts.{PlaceStands, PlaceIn, PartsAt, PartsIn, is_among}
 use Rattle.wrp_node.specs.Place.{place_of}
 use Rattle.wrp_node.specs.Telling.{Step}
@@ -71,12 +72,12 @@ deltas_told fixed before s parts p h e =
     ∙ ap (deltas_at fixed.set s.node) (sym e ∙ h.slave)
 
 pub transition_told : (fixed : NodeSetting) (before : NodeAt) (s : Step) (parts : Parts) (p : ℕ) → PartsIn fixed before s parts → is_among p parts.ports ≡ true →
-    transition_in (place_of p parts.ports) ≡ transition_of (link_at fixed.set s.node p).own_module
+    transition_in (place_of p parts.ports) ≡ transition_of (link_at fixed.set s.node p).own_module % steps_of_period
 transition_told fixed before s parts p h e =
     let f : Found (PlaceIn fixed before s) p parts.ports = found (PlaceIn fixed before s) p parts.ports h.places e in
     ap transition_in f.is
-    ∙ ap (λ (l : Rest). transition_of l.link.own_module) (line_is fixed s.node f.place f.holds.stands)
-    ∙ ap (λ (q : ℕ). transition_of (link_at fixed.set s.node q).own_module) f.number
+    ∙ ap (λ (l : Rest). transition_of l.link.own_module % steps_of_period) (line_is fixed s.node f.place f.holds.stands)
+    ∙ ap (λ (q : ℕ). transition_of (link_at fixed.set s.node q).own_module % steps_of_period) f.number
 
 -- ---- what a port tells between inputs
 

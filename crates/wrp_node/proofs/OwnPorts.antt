@@ -10,7 +10,7 @@ use Rattle.wrp_base.proofs.Lists.{length_map}
 use Rattle.wrp_base.proofs.Naturals.{same_suc}
 use Rattle.wrp_data.specs.declared.datasets.PortDs.{PortDs}
 use Rattle.wrp_node.specs.New.{OfDifferentNumbers}
-use Rattle.wrp_node.specs.NodeAt.{is_slave, slave_in}
+use Rattle.wrp_node.specs.NodeAt.{in_order, is_before, is_slave, placed, slave_in}
 use Rattle.wrp_node.specs.Set.{master_at, slave_at, ports_at, ports_of}
 use Rattle.wrp_node.proofs.Lists.{all_of}
 
@@ -39,6 +39,31 @@ pub numbers-are : (net : NetCfg) (n : ℕ) (links : List LinkCfg) → numbers_in
 numbers-are net n [] = refl
 numbers-are net n (link ∷ links) =
     numbers-link net link (flat_map (ports_at net n) links) (numbers_at n (flat_map ends_of links)) (link.upper == n) (link.lower == n) (numbers-are net n links)
+
+-- ---- whether a number is among them: their order does not matter
+
+abbrev pub has_number : ℕ → List PortDs → Bool
+has_number p ports = list_any (λ (q : ℕ). q == p) (numbers_in ports)
+
+or_swapped : (a b c : Bool) → b || (a || c) ≡ a || (b || c)
+or_swapped true true c = refl
+or_swapped true false c = refl
+or_swapped false true c = refl
+or_swapped false false c = refl
+
+placed-where : (b : Bool) (p : ℕ) (ds other : PortDs) (ports : List PortDs) → has_number p (placed ds ports) ≡ has_number p (ds ∷ ports) →
+    has_number p (if b then other ∷ placed ds ports else ds ∷ other ∷ ports) ≡ has_number p (ds ∷ other ∷ ports)
+placed-where true p ds other ports h =
+    ap (λ (c : Bool). (other.own.port == p) || c) h ∙ or_swapped (ds.own.port == p) (other.own.port == p) (has_number p ports)
+placed-where false p ds other ports h = refl
+
+has-placed : (p : ℕ) (ds : PortDs) (ports : List PortDs) → has_number p (placed ds ports) ≡ has_number p (ds ∷ ports)
+has-placed p ds [] = refl
+has-placed p ds (other ∷ ports) = placed-where (is_before other ds) p ds other ports (has-placed p ds ports)
+
+pub has_ordered : (p : ℕ) (ports : List PortDs) → has_number p (in_order ports) ≡ has_number p ports
+has_ordered p [] = refl
+has_ordered p (ds ∷ ports) = has-placed p ds (in_order ports) ∙ ap (λ (c : Bool). (ds.own.port == p) || c) (has_ordered p ports)
 
 -- ---- no two are equal
 
@@ -103,7 +128,7 @@ range-where : (b : Bool) (p : ℕ) (ns : List ℕ) → InRange p → AllByRecurs
 range-where true p ns h rest = (h, rest)
 range-where false p ns h rest = rest
 
-in_range : (n : ℕ) (links : List LinkCfg) → ((l : ℕ) (link : LinkCfg) → slice_get links l ≡ Some link → HasLinkRanges link) → AllByRecursion InRange (numbers_at n (flat_map ends_of links))
+pub in_range : (n : ℕ) (links : List LinkCfg) → ((l : ℕ) (link : LinkCfg) → slice_get links l ≡ Some link → HasLinkRanges link) → AllByRecursion InRange (numbers_at n (flat_map ends_of links))
 in_range n [] each = tt
 in_range n (link ∷ links) each =
     let own : HasLinkRanges link = each 0 link refl in

@@ -35,7 +35,7 @@ use Rattle.wrp_node.specs.New.{OfDifferentNumbers}
 use Rattle.wrp_node.specs.NodeAt.{NodeSetting, NodeAt, is_before, placed, in_order, numbers_of, slave_of, setting_of, line_at, link_at, locked_of, certain_of, state_of, est_of}
 use Rattle.wrp_node.specs.NodeRun.{step_out, dac_out, servo_out, rank_of, word_out, frame_out, port_out, est_out, track_out}
 use Rattle.wrp_node.specs.NodeStep.{counted_tick, lease_ticked, servo_ticked, told_slave, stamp_of, heard_unless, heard, stepped, node_step, tick_of}
-use Rattle.wrp_node.specs.Sends.{is_signal, signals_in, link_sends, signals_at, SignalsAreOfLink, frames_at, is_port, SendsArePutOut}
+use Rattle.wrp_node.specs.Sends.{is_signal, signals_in, link_sends, signals_at, SignalsAreOfLink, frames_at, is_own_port, SendsArePutOut}
 use Rattle.wrp_node.specs.Telling.{Step, step_from, with_news, with_sample, heard_of, told_by, answer_of, number_of, for_slave, tell, lease_change}
 use Rattle.wrp_node.proofs.Links.{before_ports}
 use Rattle.wrp_port.specs.declared.interface.PortIn.{PortIn}
@@ -359,4 +359,4 @@ sends_are_put_out fixed t n p h =
     (no_report p (rank_of (state_of fixed n) == rank_of (state_of fixed s.node)) (Servo (state_of fixed s.node))) (no_track p fixed t.input s.node)
     ∙ ports_frames p fixed n s (in_order fixed.set.ports.items)
     ∙ ap (λ (k : ℕ). repeated k (map octets_of (s.sends p))) (times_ordered p fixed.set.ports.items ∙ times_once p fixed.set.ports.items h)
-    ∙ once_or_not (is_port fixed p) (map octets_of (s.sends p))
+    ∙ once_or_not (is_own_port fixed p) (map octets_of (s.sends p))

@@ -1,5 +1,5 @@
 -- What the port of a number tells, where there is one.
-use Rattle.std.specs.Prelude.{ℕ, pos, nat_lt, Bool, false, Option, None, Some}
+use Rattle.std.specs.Prelude.{ℕ, ◌%◌, pos, nat_lt, Bool, false, Option, None, Some}
 use Rattle.wrp_base.specs.declared.link.Deltas.{Deltas}
 use Rattle.wrp_base.specs.declared.link.LinkWord.{LinkWord}
 use Rattle.wrp_base.specs.declared.link.LinkWord.TheVariants.{Down}
@@ -7,12 +7,12 @@ use Rattle.wrp_base.specs.declared.measurement.Four.{Four}
 use Rattle.wrp_base.specs.declared.time.Clock.{Clock}
 use Rattle.wrp_base.specs.declared.time.Raw.{Raw}
 use Rattle.wrp_base.specs.declared.time.Stamp.{Stamp}
+use Rattle.wrp_base.specs.Clock.{steps_of_period}
 use Rattle.wrp_data.specs.Counters.{count_at}
 use Rattle.wrp_link.specs.Table.{word_of}
 use Rattle.wrp_node.specs.declared.place.PortPlace.{PortPlace}
-use Rattle.wrp_node.specs.NodeStep.{transition_of}
 use Rattle.wrp_port.specs.PortAt.{deltas_of}
-use Rattle.wrp_stamp.specs.Merge.{merged}
+use Rattle.wrp_stamp.specs.Merge.{merged, transition_of}
 
 -- whether the lease of the port is fresh, that is, has turns left; false where there is no port
 abbrev pub lease_in : Option PortPlace → Bool
@@ -28,7 +28,7 @@ deltas_in (Some place) = deltas_of place.port.set.ds.role place.port.line.link
 -- module is not listed, and where there is no port
 abbrev pub transition_in : Option PortPlace → ℕ
 transition_in None = 0
-transition_in (Some place) = transition_of place.port.line.link.own_module
+transition_in (Some place) = transition_of place.port.line.link.own_module % steps_of_period
 
 -- the stamp of a reception there
 abbrev pub stamp_in : Clock → Raw → ℕ → Option PortPlace → Stamp

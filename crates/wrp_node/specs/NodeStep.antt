@@ -5,6 +5,7 @@ use Rattle.wrp_base.specs.declared.measurement.Four.{Four}
 use Rattle.wrp_base.specs.declared.message.PtpMsg.{PtpMsg}
 use Rattle.wrp_base.specs.declared.time.Raw.{Raw}
 use Rattle.wrp_base.specs.declared.time.Stamp.{Stamp}
+use Rattle.wrp_base.specs.Clock.{steps_of_period}
 use Rattle.wrp_data.specs.declared.reason.Reason.{Reason}
 use Rattle.wrp_data.specs.Reason.{number_of as reason_number}
 use Rattle.wrp_frame.specs.declared.fault.FrameFault.{FrameFault}
@@ -18,7 +19,7 @@ use Rattle.wrp_port.specs.declared.interface.PortIn.TheVariants.{Msg, Lease, Tic
 use Rattle.wrp_port.specs.Hearing.{early_reason}
 use Rattle.wrp_port.specs.Outputs.{sends_of, drop_of, measured_by}
 use Rattle.wrp_servo.specs.Call.{Call, CallSample, CallMeasured, CallTick, CallCarrier, CallReset}
-use Rattle.wrp_stamp.specs.Merge.{merged}
+use Rattle.wrp_stamp.specs.Merge.{merged, transition_of}
 
 -- one port is told something, and sends what comes of it
 abbrev pub handed : NodeSetting → ℕ → PortIn → NodeAt → Step
@@ -59,16 +60,11 @@ ports_ticked fixed s = record s {
 
 -- ---- a frame
 
--- where in the period the counters of a port change over, in steps of the detector
-abbrev pub transition_of : Option Module → ℕ
-transition_of None = 0
-transition_of (Some own_module) = own_module.transition % 16384
-
 -- the stamp of its reception, merged with the transition of the port's module, which is 0 where the module is not listed
 abbrev pub stamp_of : NodeSetting → NodeAt → ℕ → Raw → ℕ → Stamp
 stamp_of fixed n p raw sample =
     record {
-      value = pos (merged fixed.set.servo.clock raw (transition_of (link_at fixed.set n p).own_module));
+      value = pos (merged fixed.set.servo.clock raw (transition_of (link_at fixed.set n p).own_module % steps_of_period));
       sample = sample;
     }
 

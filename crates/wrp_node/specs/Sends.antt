@@ -55,12 +55,12 @@ frames_at p (Send q frame ∷ outs) = if q == p then frame.items ∷ frames_at p
 frames_at p (out ∷ outs) = frames_at p outs
 
 -- whether a number is that of one of the node's ports
-abbrev pub is_port : NodeSetting → ℕ → Bool
-is_port fixed p = list_any (λ ds. ds.own.port == p) fixed.set.ports.items
+abbrev pub is_own_port : NodeSetting → ℕ → Bool
+is_own_port fixed p = list_any (λ ds. ds.own.port == p) fixed.set.ports.items
 
 -- the frames among the outputs of a step are what its ports send: at each port, in order, and at no other number
 abbrev pub SendsArePutOut : Type 0
 SendsArePutOut =
     (fixed : NodeSetting) (t : Taken) (n : NodeAt) (p : ℕ) → OfDifferentNumbers fixed.set.ports.items →
     frames_at p (outputs_of fixed t.input n (node_step fixed t n))
-    ≡ (if is_port fixed p then map octets_of ((node_step fixed t n).sends p) else [])
+    ≡ (if is_own_port fixed p then map octets_of ((node_step fixed t n).sends p) else [])

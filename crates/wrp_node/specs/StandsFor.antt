@@ -10,7 +10,7 @@ use Rattle.wrp_node.specs.NodeAt.{Taken, NodeSetting, NodeAt}
 use Rattle.wrp_node.specs.NodeRun.{AllSaid, IsSaid, node_after, outputs_at}
 use Rattle.wrp_node.specs.NodeStep.{node_step}
 use Rattle.wrp_node.specs.Parts.{PartsAt, PartsIn}
-use Rattle.wrp_node.specs.Sends.{is_port}
+use Rattle.wrp_node.specs.Sends.{is_own_port}
 use Rattle.wrp_node.specs.Spelled.{AreSpelled}
 use Rattle.wrp_node.specs.Telling.{Step}
 
@@ -39,7 +39,7 @@ pub record Steps {F : Type 0} (post : F → ℤ → ℤ → Type 0) (old new : N
   pub stands : (fixed : NodeSetting) (before : List Taken) → StandsFor post fixed old before → StandsFor post fixed new (t ∷ before)
   -- the octets of what its ports send spell it
   pub spelled :
-      (fixed : NodeSetting) (before : List Taken) → StandsFor post fixed old before → (p : ℕ) → is_port fixed p ≡ true →
+      (fixed : NodeSetting) (before : List Taken) → StandsFor post fixed old before → (p : ℕ) → is_own_port fixed p ≡ true →
       AreSpelled ((node_step fixed t (node_after fixed before)).sends p)
 
 -- an input was taken, with what its octets say and with an answer of the law

@@ -21,7 +21,7 @@ use wrp_base::{Clock, LinkWord, PtpMsg, Raw, STEPS_OF_PERIOD, Stamp, Tau};
 use wrp_data::Counters;
 use wrp_frame::encode;
 use wrp_port::{Port, PortIn, PortOut};
-use wrp_stamp::merge;
+use wrp_stamp::{merge, transition_of};
 
 /// A port of a node.
 #[derive(Drop)]
@@ -162,10 +162,7 @@ impl PortPlace {
         ensures value { result ≡ transition_in (Some self.now) }
         ensures below { result < 16384 }
     {
-        match self.port.own_module() {
-            Some(own_module) => own_module.transition % STEPS_OF_PERIOD,
-            None => 0,
-        }
+        transition_of(self.port.own_module()) % STEPS_OF_PERIOD
     }
 
     /// Counts a reason, 1 to 15.

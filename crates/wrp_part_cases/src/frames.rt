@@ -5,22 +5,8 @@ ghost use Rattle.wrp_base.specs.Message.{IsSound};
 use crate::printing::{push_body, push_head, push_octets};
 use std::alloc::{AllocError, Global};
 use wrp_base::PtpMsg;
-use wrp_frame::{FrameFault, decode, encode};
+use wrp_frame::{decode, encode};
 use wrp_suite::{Answer, Case, Fault};
-
-// The number of a fault.
-fn number(fault: FrameFault) -> u8 {
-    match fault {
-        FrameFault::Short => 1,
-        FrameFault::Version => 2,
-        FrameFault::Kind => 3,
-        FrameFault::Length => 4,
-        FrameFault::Time => 5,
-        FrameFault::Tlv => 6,
-        FrameFault::BadWr => 7,
-        FrameFault::OneStep => 8,
-    }
-}
 
 // Appends a message, and the octets that it is sent as.
 fn tell(alloc: Global, text: &mut String, message: &PtpMsg) -> Result<(), AllocError>
@@ -39,6 +25,6 @@ pub fn answer(alloc: Global, case: &Case) -> Result<Answer, Fault> {
             tell(alloc, &mut text, &message)?;
             Ok(Answer::of(0, text))
         }
-        Err(fault) => Ok(Answer::of(number(fault), text)),
+        Err(fault) => Ok(Answer::of(fault.number(), text)),
     }
 }

@@ -10,6 +10,7 @@ use Rattle.wrp_base.specs.declared.message.Body.TheVariants.{Signal}
 use Rattle.wrp_base.specs.declared.message.PortIdentity.{PortIdentity}
 use Rattle.wrp_base.specs.declared.message.PtpMsg.{PtpMsg}
 use Rattle.wrp_frame.specs.declared.fault.FrameFault.{FrameFault}
+use Rattle.wrp_frame.specs.Faults.{fault_number}
 use Rattle.wrp_pcap.specs.declared.verdict.Verdict8.{Verdict8}
 use Rattle.wrp_pcap.specs.declared.verdict.Verdict8.TheVariants.{Complete, Restarted, Missing}
 use Rattle.wrp_pcap.specs.Certificate.{Captured, verdict_of}
@@ -17,7 +18,7 @@ use Rattle.wrp_pcap.specs.declared.content.Content.{Content}
 use Rattle.wrp_pcap.specs.declared.content.Content.TheVariants.{Other, Message, Fault}
 use Rattle.wrp_pcap.specs.Content.{messages_of}
 use Rattle.wrp_records.specs.Words.{line_of}
-use Rattle.wrp_pcap.specs.Words.{kind_word, message_word, frame_fault_number, frame_fault_word}
+use Rattle.wrp_pcap.specs.Words.{kind_word, message_word, frame_fault_word}
 
 -- words with a space before each
 abbrev pub spaced : List (List ℕ) → List ℕ
@@ -37,7 +38,7 @@ message_words number message =
 -- a PTP frame that is no message
 abbrev pub fault_words : ℕ → FrameFault → List (List ℕ)
 fault_words number fault =
-    decimal number ∷ codes "fault" ∷ decimal (frame_fault_number fault) ∷ frame_fault_word fault ∷ []
+    decimal number ∷ codes "fault" ∷ decimal (fault_number fault) ∷ frame_fault_word fault ∷ []
 
 -- a verdict
 abbrev pub verdict_words : Verdict8 → List (List ℕ)

@@ -40,18 +40,7 @@ message_word (DelayResp receive requesting) = None
 message_word (Announce origin utc p1 quality p2 gm steps source suffix) = None
 message_word (Signal target wr) = word_of wr
 
--- the number of what is wrong with a PTP frame that is no message
-abbrev pub frame_fault_number : FrameFault → ℕ
-frame_fault_number Short = 1
-frame_fault_number Version = 2
-frame_fault_number Kind = 3
-frame_fault_number Length = 4
-frame_fault_number Time = 5
-frame_fault_number Tlv = 6
-frame_fault_number BadWr = 7
-frame_fault_number OneStep = 8
-
--- its word
+-- the word of what is wrong with a PTP frame that is no message
 abbrev pub frame_fault_word : FrameFault → List ℕ
 frame_fault_word Short = codes "short"
 frame_fault_word Version = codes "version"

@@ -74,7 +74,8 @@ impl Counts {
         }
     }
 
-    /// Appends the line behind the last packet. Where there is no memory for it, the text keeps its octets.
+    /// Appends the line behind the last packet. `AllocError` where there is no memory for it: the
+    /// text keeps its octets.
     pub fn append(self, text: &mut Vec<u8>) -> Result<(), AllocError>
         ensures ok { (contents : List Content) → AreCounts self contents
             → OnOk result (text.new.items ≡ text.old.items ++ sum_line contents) }

@@ -96,7 +96,8 @@ impl Inspection {
         }
     }
 
-    /// Appends the line behind the last packet. Where there is no memory for it, the text keeps its octets.
+    /// Appends the line behind the last packet. `AllocError` where there is no memory for it: the
+    /// text keeps its octets.
     pub fn append_sum(&self, text: &mut Vec<u8>) -> Result<(), AllocError>
         ensures ok { (contents : List Content) → HasTaken self.now contents
             → OnOk result (text.new.items ≡ text.old.items ++ sum_line contents) }

@@ -39,4 +39,4 @@ pub use inspection::Inspection;
 pub use laws::{certificate_is_due, complete_rises, marks_of_eight, worked_certificates};
 pub use pairs::Pairs;
 pub use verdict::Verdict8;
-pub use words::{frame_fault_number, frame_fault_word, kind_word, message_word};
+pub use words::{frame_fault_word, kind_word, message_word};

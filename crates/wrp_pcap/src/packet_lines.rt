@@ -8,7 +8,7 @@ ghost use Rattle.wrp_pcap.specs.PacketLines.{identity, message_words, fault_word
 ghost use Rattle.wrp_records.specs.Words.{line_of};
 ghost use Rattle.wrp_pcap.specs.PacketLines.{verdict_words, verdict_line, lines_with, spaced};
 
-use crate::words::{frame_fault_number, frame_fault_word, kind_word, message_word};
+use crate::words::{frame_fault_word, kind_word, message_word};
 use crate::{Content, Verdict8};
 use itoa::Buffer;
 use std::alloc::AllocError;
@@ -89,7 +89,7 @@ fn append_fault(text: &mut Vec<u8>, number: u32, fault: FrameFault) -> Result<()
 {
     append_number(text, number)?;
     append_word(text, b"fault")?;
-    append_number_word(text, u32::from(frame_fault_number(fault)))?;
+    append_number_word(text, u32::from(fault.number()))?;
     append_word(text, frame_fault_word(fault).as_bytes())?;
     append_end(text)
 }

@@ -1,8 +1,7 @@
 //! The words of PTP messages, of the White Rabbit messages that they carry, and of frames that are no
 //! message.
 ghost use Rattle.std.specs.Prelude.{◌≡◌, option_map};
-ghost use Rattle.wrp_pcap.specs.Words.{kind_word, wr_word, message_word};
-ghost use Rattle.wrp_pcap.specs.Words.{frame_fault_number, frame_fault_word};
+ghost use Rattle.wrp_pcap.specs.Words.{kind_word, wr_word, message_word, frame_fault_word};
 
 use wrp_base::{Body, PtpMsg, WrMsg};
 use wrp_frame::FrameFault;
@@ -43,22 +42,6 @@ fn wr_word(message: WrMsg) -> &'static str
         WrMsg::Calibrate { .. } => "calibrate",
         WrMsg::Calibrated { .. } => "calibrated",
         WrMsg::ModeOn => "mode-on",
-    }
-}
-
-/// The number of what is wrong with a frame that is no message: 1 to 8.
-pub fn frame_fault_number(fault: FrameFault) -> u8
-    ensures { result ≡ frame_fault_number fault }
-{
-    match fault {
-        FrameFault::Short => 1,
-        FrameFault::Version => 2,
-        FrameFault::Kind => 3,
-        FrameFault::Length => 4,
-        FrameFault::Time => 5,
-        FrameFault::Tlv => 6,
-        FrameFault::BadWr => 7,
-        FrameFault::OneStep => 8,
     }
 }
 

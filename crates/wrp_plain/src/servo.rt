@@ -40,6 +40,7 @@ impl Model for Plain {
 
 impl Plain {
     /// A servo that was given no measurement. It takes all the memory that it will need.
+    /// `AllocError` where there is not that much: no servo is made.
     pub fn new(alloc: Global, set: PlainSet) -> Result<Plain, AllocError>
         requires { HasRanges set }
         ensures { IfOk result (λ plain. StandsFor set plain []) }
@@ -95,8 +96,8 @@ impl Plain {
         self.set
     }
 
-    /// Takes a tick, and reports. None exactly where no measurement is kept. At most `2^32 - 1` ticks
-    /// may come.
+    /// Takes a tick, and reports. None exactly where no measurement is kept. At most `2^32 - 1`
+    /// ticks may come. The tick counts in both cases.
     pub fn tick(&mut self) -> Option<PlainReport>
         requires { self.old.ticks < 2 ^ 32 - 1 }
         ensures value { (set : PlainSet) (calls : List Call) → StandsFor set self.old calls → result ≡ report_of set (CallTick ∷ calls) }

@@ -42,8 +42,9 @@ impl Model for PlainWorld {
 }
 
 impl PlainWorld {
-    /// A world before its first event, where the true offset is `off`, in tau: at most `2^62`, either
-    /// way. It takes all the memory that it will need.
+    /// A world before its first event, where the true offset is `off`, in tau: at most `2^62`,
+    /// either way. It takes all the memory that it will need. `AllocError` where there is not that
+    /// much: no world is made.
     pub fn new(alloc: Global, set: PlainSet, off: i64) -> Result<PlainWorld, AllocError>
         requires set { HasRanges set }
         requires off { unsigned_abs off ≤ 2 ^ 62 }

@@ -18,7 +18,8 @@ use Rattle.wrp_flights.specs.Frames.{FramesAt, at}
 use Rattle.wrp_course.specs.declared.place.Place.{Place}
 use Rattle.wrp_course.specs.Moved.{waiting_at}
 use Rattle.wrp_plant.specs.Plant.{DepartedIs, Each, EndIs, FitsEnd, FitsSpan, FramesAre, PutOutIs, SpanIs, end_in}
-use Rattle.wrp_course.specs.Premises.{arrive_checks, depart_checks, raw_checks, received, received_at, transition_of}
+use Rattle.wrp_course.specs.Premises.{arrive_checks, depart_checks, raw_checks, received, received_at}
+use Rattle.wrp_stamp.specs.Merge.{transition_of}
 use Rattle.wrp_course.specs.Setting.{Setting, end_at, entry_at, of_node, place_of}
 use Rattle.wrp_plant.specs.Sizes.{IsTime, IsTimeBy}
 use Rattle.wrp_plant.specs.Tried.{departs_by, received_to}

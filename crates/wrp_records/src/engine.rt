@@ -170,6 +170,7 @@ fn next_record<S: Source, K: Sink>(
 }
 
 /// Appends the line that names a record that is too large, or an event with too great a number.
+/// `AllocError` where there is no memory for it: nothing is appended.
 pub fn append_large(alloc: Global, waiting: &mut Vec<u8>, number: u64) -> Result<(), AllocError>
     ensures ok { OnOk result (waiting.new.items ≡ waiting.old.items ++ large_line number) }
     ensures err { OnErr result (waiting.new.items ≡ waiting.old.items) }

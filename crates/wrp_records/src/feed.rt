@@ -6,7 +6,7 @@ ghost use Rattle.wrp_records.specs.Lines.{line_feed, HasNoFeed, IsWhole};
 use memchr::memchr;
 use std::alloc::AllocError;
 
-/// The place of the first LF.
+/// The place of the first LF. None exactly where there is none.
 #[tactic(auto, using(crate::proofs::FirstFeed::first_is))]
 pub fn first_feed(octets: &[u8]) -> Option<usize>
     ensures { result ≡ position (λ octet. octet == line_feed) octets.now }
@@ -26,8 +26,9 @@ pub fn first_whole(octets: &[u8]) -> Option<usize>
     }
 }
 
-/// Appends the octets up to the first LF and with it, and answers how many these are; all of them,
-/// where there is no LF.
+/// Appends the octets up to the first LF and with it, and answers how many these are; None where
+/// there is no LF, and then all of them. `AllocError` where there is no memory for them: the line
+/// is as before.
 pub fn append_front(line: &mut Vec<u8>, octets: &[u8]) -> Result<Option<usize>, AllocError>
     requires { HasNoFeed line.old.items }
     ensures all { IfOk result (λ given. MatchOption given

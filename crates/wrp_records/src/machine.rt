@@ -62,8 +62,10 @@ pub trait Machine {
     /// Lines that say this, and no more, give no answer, and this last line names it.
     ghost bars: { Self.Setting → List (List ℕ) → List ℕ → Type 0 };
 
-    /// Takes what a line says, the record of this number, by the parts that `csv` gives, and appends
-    /// what it writes to `text`. A line that is not plain has no parts. The error is lack of memory.
+    /// Takes what a line says, the record of this number, by the parts that `csv` gives, and
+    /// appends what it writes to `text`. A line that is not plain has no parts. `AllocError` where
+    /// there is no memory: the machine keeps its setting, and nothing is known of `text` or of what
+    /// it has taken.
     fn take(
         &mut self,
         alloc: Global,
@@ -89,8 +91,8 @@ pub trait Machine {
             → has_taken self.old lines → number ≡ length lines + 1
             → refuses (setting self.old) lines line.now refusal text.new.items) };
 
-    /// Takes the end of the input, and appends what is written after all records to `text`. The error is
-    /// lack of memory.
+    /// Takes the end of the input, and appends what is written after all records to `text`.
+    /// `AllocError` where there is no memory: then nothing is known of `text`.
     fn close(&self, alloc: Global, text: &mut Vec<u8>) -> Result<Closing, AllocError>
         requires ready { is_ready self.now }
         requires none { text.old.items ≡ [] }

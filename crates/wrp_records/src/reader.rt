@@ -93,6 +93,8 @@ impl Reader {
     }
 
     /// Appends to a line what is held, up to the first LF and with it. Answers whether an LF came.
+    /// `AllocError` where there is no memory: no octet is lost, and those that were given are in
+    /// front of those that are held.
     pub fn give(&mut self, line: &mut Vec<u8>) -> Result<bool, AllocError>
         requires { HasNoFeed line.old.items }
         ensures same { line.new.items ++ self.new.rest ≡ line.old.items ++ self.old.rest }

@@ -30,7 +30,8 @@ fn network_fault(code: u8) -> &'static str
     }
 }
 
-/// The line of a network or calibration text that is refused.
+/// The line of a network or calibration text that is refused. `AllocError` where there is no memory
+/// for it.
 pub fn bad_network(alloc: Global, code: u8, place: &str) -> Result<String, AllocError>
     ensures { IfOk result (λ line. string_bytes line ≡ bad_network_line code place.now) }
 {
@@ -98,8 +99,9 @@ fn append_bad_trace(
     text.extend_from_slice(line.as_bytes())
 }
 
-/// Refuses a record for a fault of its line, and appends the line that names it. A fault that is lack of
-/// memory is an error instead.
+/// Refuses a record for a fault of its line, and appends the line that names it. `AllocError` where
+/// the fault is lack of memory, or there is no memory for the line: then nothing is known of
+/// `text`.
 pub fn refuse(
     alloc: Global,
     number: u32,
@@ -142,8 +144,9 @@ fn broken(
     format!(in alloc; "broken {number} {premise} {name} {shown} {bound}\n")
 }
 
-/// Appends the line of a record that breaks a premise of this number and name, and both sides of the
-/// comparison that fails.
+/// Appends the line of a record that breaks a premise of this number and name, and both sides of
+/// the comparison that fails. `AllocError` where there is no memory: then nothing is known of
+/// `text`.
 pub fn append_broken_words(
     alloc: Global,
     text: &mut Vec<u8>,

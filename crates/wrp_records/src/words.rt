@@ -30,8 +30,8 @@ fn append_on(text: &mut Vec<u8>, words: &[&str]) -> Result<(), AllocError>
     }
 }
 
-/// Appends to `text` the line of some words: a space between two of them, and LF behind the last. Where
-/// there is no memory for the line, `text` keeps its octets.
+/// Appends to `text` the line of some words: a space between two of them, and LF behind the last.
+/// `AllocError` where there is no memory for the line: `text` keeps its octets.
 pub fn append_words(text: &mut Vec<u8>, words: &[&str]) -> Result<(), AllocError>
     ensures ok { OnOk result (
         text.new.items ≡ text.old.items ++ line_of (map (λ word. word.now) words.now)) }

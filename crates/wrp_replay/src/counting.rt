@@ -67,7 +67,8 @@ fn has_port(replayed: Replayed<'_>, port: u16) -> bool
     pair_at(&replayed.net.cfg, replayed.node, port).is_some()
 }
 
-/// Appends those of all ports of the node.
+/// Appends those of all ports of the node. `AllocError` where there is no memory: then nothing is
+/// known of `text`.
 pub fn append_counts<F: Fn(i64) -> i64>(
     replayed: Replayed<'_>,
     name: &str,

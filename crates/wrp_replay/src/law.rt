@@ -53,7 +53,7 @@ pub fn asked<'a>(above: Option<LinkLaw<'a>>) -> LinkLaw<'a>
     }
 }
 
-/// A law where there is one to keep.
+/// A law where there is one to keep. None exactly where there is none to keep.
 pub fn kept_if<F: Fn(i64) -> i64>(has_law: bool, law: DelayLaw<F>) -> Option<DelayLaw<F>>
     ensures { result ≡ (if has_law then Some law else None) }
 {

@@ -39,7 +39,8 @@ pub struct ReplayedNode<'a, F: Fn(i64) -> i64> {
 }
 
 impl<'a, F: Fn(i64) -> i64> ReplayedNode<'a, F> {
-    /// A node before its first record, with the law of the link above it.
+    /// A node before its first record, with the law of the link above it. `AllocError` where there
+    /// is no memory for it: no node is made.
     pub fn new(
         alloc: Global,
         replayed: Replayed<'a>,

@@ -3,7 +3,7 @@ ghost use Rattle.std.specs.Prelude.{◌≡◌, ℕ, List, true, IfOk, IfSome};
 ghost use Rattle.std.specs.Io.KnownBytes.{Appends};
 ghost use Rattle.wrp_io.specs.declared.link.LinkCall.{LinkCall};
 ghost use Rattle.wrp_io.specs.Faults.{Rose};
-ghost use Rattle.wrp_loop.specs.Calls.{Adds};
+ghost use Rattle.wrp_loop.specs.Calls.{Grew};
 ghost use Rattle.wrp_records.specs.declared.status.Status.{Status};
 ghost use Rattle.wrp_records.specs.Passages.{FailsBy, passage};
 ghost use Rattle.wrp_records.specs.Statuses.{is_answer};
@@ -159,7 +159,7 @@ pub fn run<S: Source, K: Sink, N: Link>(
     // The same of a run over a link: what it wrote is told by some calls that the link told more.
     ensures looped { (seed : ℕ) → IsLooping (asked_in words.now) seed → IfSome (S.left source.old) (λ input.
         (octets : List ℕ) × (calls : List LinkCall) × Appends (K.held sink.old) (K.held sink.new) octets
-        × Adds (N.told link.old) (N.told link.new) calls
+        × Grew (N.told link.old) (N.told link.new) calls
         × LoopHeadline (asked_in words.now) input calls result octets) }
 
     // Of an audit, a simulation and a run over a link, for each status: in each line NODE TICK track EST BOUND true OFF that

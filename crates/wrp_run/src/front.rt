@@ -27,6 +27,7 @@ pub struct Front {
 }
 
 /// A reader that has taken nothing, on the heap: no frame of a caller has room for its piece.
+/// `AllocError` where the heap has no room for it.
 #[inline(never)]
 pub fn new_reader(alloc: Global) -> Result<Box<Reader>, AllocError>
     ensures { IfOk result (λ reader. (reader.value.rest ≡ []) × (reader.value.ended ≡ false)) }
@@ -34,7 +35,8 @@ pub fn new_reader(alloc: Global) -> Result<Box<Reader>, AllocError>
     Ok(Box::new(alloc, Reader::new())?)
 }
 
-/// Reads a network, and keeps it on the heap. No frame of a caller has room for one.
+/// Reads a network, and keeps it on the heap. No frame of a caller has room for one. The error is
+/// the first fault that the text has as a network file, or want of memory.
 #[inline(never)]
 pub fn read_network(alloc: Global, text: &[u8]) -> Result<Box<Network>, ConfFault>
     ensures reads { IfOk result (λ net. IsReadingOf text.now (Ok net.value)) }

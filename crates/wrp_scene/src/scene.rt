@@ -162,7 +162,7 @@ impl Scene {
         }
     }
 
-    /// The same of the fields of a line.
+    /// The same of the fields of a line. A line that is refused changes nothing.
     pub fn read_fields(&mut self, row: &ByteRecord, net: &Network) -> Result<(), TraceFault>
         requires ranges { HasRanges net.now.cfg }
         requires scene { IsSceneOf net.now.cfg self.old }

@@ -9,7 +9,7 @@ use Rattle.wrp_network.specs.Network.{End}
 use Rattle.wrp_base.specs.declared.time.Clock.{Clock}
 use Rattle.wrp_base.specs.declared.time.Clock.TheVariants.{Mhz125, Mhz62}
 use Rattle.wrp_base.specs.declared.time.Raw.{Raw}
-use Rattle.wrp_course.specs.Premises.{transition_of}
+use Rattle.wrp_stamp.specs.Merge.{transition_of}
 use Rattle.wrp_course.specs.Setting.{Setting, end_at}
 use Rattle.wrp_course.specs.WorldAt.{WorldAt, reading}
 use Rattle.wrp_sim.specs.Numbers.{is_within, raw_at}

@@ -15,7 +15,8 @@ use Rattle.wrp_bounds.specs.Times.{reach}
 use Rattle.wrp_caldb.specs.Database.{module_at}
 use Rattle.wrp_course.specs.declared.fibres.FibreState.{FibreState}
 use Rattle.wrp_course.specs.Checks.{AllHold, only_where}
-use Rattle.wrp_course.specs.Premises.{asymmetry, fibre_checks, fibre_kept, transition_of}
+use Rattle.wrp_course.specs.Premises.{asymmetry, fibre_checks, fibre_kept}
+use Rattle.wrp_stamp.specs.Merge.{transition_of}
 use Rattle.wrp_course.specs.Runs.{IsNetwork}
 use Rattle.wrp_course.specs.Setting.{Setting, link_of, sends_nm}
 use Rattle.wrp_course.specs.WorldAt.{WorldAt, delay_from, first_name}

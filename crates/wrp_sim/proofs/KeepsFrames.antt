@@ -21,7 +21,8 @@ use Rattle.wrp_course.specs.declared.event.Event.TheVariants.{Depart, Arrive, De
 use Rattle.wrp_course.specs.declared.place.Place.{Place}
 use Rattle.wrp_course.specs.Checks.{AllHold, needs}
 use Rattle.wrp_course.specs.Moved.{arrived, arriving, moved, waiting_at}
-use Rattle.wrp_course.specs.Premises.{arrive_checks, deliver_by, deliver_checks, depart_checks, received, received_at, transition_of}
+use Rattle.wrp_course.specs.Premises.{arrive_checks, deliver_by, deliver_checks, depart_checks, received, received_at}
+use Rattle.wrp_stamp.specs.Merge.{transition_of}
 use Rattle.wrp_course.specs.RunLaws.{HasTimes}
 use Rattle.wrp_course.specs.Setting.{Setting, end_at, end_of, entry_at, from_on, nodes_of, of_node, place_of}
 use Rattle.wrp_course.specs.Views.{IsNextArrival, oldest_of, waiting_of}

@@ -17,7 +17,8 @@ use Rattle.wrp_phase.specs.BeatPattern.{true_step}
 use Rattle.wrp_course.specs.declared.event.Event.{Event}
 use Rattle.wrp_course.specs.declared.event.Event.TheVariants.{Pass, Tick, Sample, Depart, Arrive, Deliver, Down, Up, Cut, Join}
 use Rattle.wrp_course.specs.EventAt.{link_count}
-use Rattle.wrp_course.specs.Premises.{rate_of, transition_of}
+use Rattle.wrp_course.specs.Premises.{rate_of}
+use Rattle.wrp_stamp.specs.Merge.{transition_of}
 use Rattle.wrp_course.specs.Setting.{Setting, above, end_at, entry_at, node_setting_of, from_on, link_of, links_of, nodes_of, of_node, start_of}
 use Rattle.wrp_course.specs.Views.{waiting_of}
 use Rattle.wrp_course.specs.WorldAt.{WorldAt, first_name, has_carrier, reading}

@@ -26,7 +26,7 @@ use Rattle.wrp_sim.specs.SimRun.{Gives, IsSimRun}
 use Rattle.wrp_course.specs.declared.event.Event.TheVariants.{Pass, Sample, Depart, Arrive, Join}
 use Rattle.wrp_course.specs.EventAt.{link_count}
 use Rattle.wrp_course.specs.Moved.{waiting_at}
-use Rattle.wrp_course.specs.Premises.{transition_of}
+use Rattle.wrp_stamp.specs.Merge.{transition_of}
 use Rattle.wrp_course.specs.Run.{Happened, world_after}
 use Rattle.wrp_course.specs.Setting.{Setting, node_setting_of, from_on, link_of}
 use Rattle.wrp_course.specs.Views.{oldest_of}

@@ -51,7 +51,8 @@ pub struct Course {
 }
 
 impl Course {
-    /// Before the first event of a network.
+    /// Before the first event of a network. `AllocError` where there is no memory for it: nothing
+    /// is made.
     pub fn new(alloc: Global, net: &Network, scene: Scene, seed: u64) -> Result<Course, AllocError>
         requires { IsSceneOf net.now.cfg scene }
         ensures fits { IfOk result (λ course. FitsSim net.now.cfg course.sim) }
@@ -73,7 +74,8 @@ impl Course {
 }
 
 impl<F: Fn(i64) -> i64> SimulatedNetwork<F> {
-    /// A network before its first event, with the laws of the links above its nodes.
+    /// A network before its first event, with the laws of the links above its nodes. `AllocError`
+    /// where there is no memory for it: no network is made.
     pub fn new(
         alloc: Global,
         net: Network,
@@ -96,7 +98,8 @@ impl<F: Fn(i64) -> i64> SimulatedNetwork<F> {
         })
     }
 
-    /// Takes an event that keeps all premises, and appends what its steps write.
+    /// Takes an event that keeps all premises, and appends what its steps write. `AllocError` where
+    /// there is no memory: then nothing is known of `text`, nor whether the event was taken.
     pub fn happen(
         &mut self,
         alloc: Global,
@@ -133,7 +136,8 @@ impl<F: Fn(i64) -> i64> SimulatedNetwork<F> {
         append_steps(alloc, &self.world, &self.bounds, &self.outs, text)
     }
 
-    /// Appends the lines that sum up the runs of the nodes, by their totals.
+    /// Appends the lines that sum up the runs of the nodes, by their totals. `AllocError` where
+    /// there is no memory: then nothing is known of `text`.
     pub fn append_sums(&self, totals: &[Total], text: &mut Vec<u8>) -> Result<(), AllocError>
         requires ready { CanRun F.pre F.post self.now }
         requires count { length totals.now ≡ node_count self.now.world.plant.net.cfg }

@@ -70,7 +70,7 @@ fn is_track(out: &Output) -> bool
     }
 }
 
-/// Those of so many nodes, before any line.
+/// Those of so many nodes, before any line. `AllocError` where there is no memory for them.
 pub fn no_totals(alloc: Global, count: u8) -> Result<Vec<Total>, AllocError>
     ensures count { IfOk result (λ totals. length totals.items ≡ count) }
     ensures each { IfOk result (λ totals. AreTotals (λ n. []) totals.items) }

@@ -1,5 +1,7 @@
 -- Merging: a receive stamp as one reading of the local clock, from two counters of whole periods and a phase tag (this project's profile).
-use Rattle.std.specs.Prelude.{ℕ, ◌+◌, ◌-◌, ◌*◌, ◌/◌, ◌%◌, nat_lt, if◌then◌else◌}
+use Rattle.std.specs.Prelude.{ℕ, ◌+◌, ◌-◌, ◌*◌, ◌/◌, ◌%◌, nat_lt, if◌then◌else◌, Option}
+use Rattle.std.specs.Option.{option_map_or}
+use Rattle.wrp_base.specs.declared.link.Module.{Module}
 use Rattle.wrp_base.specs.declared.time.Clock.{Clock}
 use Rattle.wrp_base.specs.declared.time.Raw.{Raw}
 use Rattle.wrp_base.specs.Clock.{period_of, step_of, steps_of_period}
@@ -23,3 +25,7 @@ abbrev pub merged : Clock → Raw → ℕ → ℕ
 merged clock raw transition =
     let place = place_of clock raw.tag transition in
     periods_at clock raw place * period_of clock + place
+
+-- the tag at which the counters change over with this module, in detector steps; 0 for a module that is not listed
+abbrev pub transition_of : Option Module → ℕ
+transition_of entry = option_map_or (λ m. m.transition) entry 0

@@ -5,6 +5,8 @@
 
 mod error_statement;
 mod merging;
+mod transition;
 
 pub use error_statement::merged_within_tag;
 pub use merging::merge;
+pub use transition::transition_of;

@@ -27,7 +27,7 @@ const LAST_STEP: u64 = 16_383;
 // The greatest count of periods.
 const MOST_COUNT: u64 = (1 << 63) - 1;
 
-/// A number of 16 bits.
+/// A number of 16 bits: 0 to 65535. `Number` with this place where the field is not that.
 pub fn u16_at(row: &ByteRecord, place: u32) -> Result<u16, TraceFault>
     requires { 0 < place }
     ensures { result ≡ u16_at place (fields_of row.now) }
@@ -36,7 +36,7 @@ pub fn u16_at(row: &ByteRecord, place: u32) -> Result<u16, TraceFault>
     Ok(number as u16)
 }
 
-/// A number of 32 bits.
+/// A number of 32 bits: 0 to `2^32 - 1`. `Number` with this place where the field is not that.
 pub fn u32_at(row: &ByteRecord, place: u32) -> Result<u32, TraceFault>
     requires { 0 < place }
     ensures { result ≡ u32_at place (fields_of row.now) }
@@ -45,7 +45,8 @@ pub fn u32_at(row: &ByteRecord, place: u32) -> Result<u32, TraceFault>
     Ok(number as u32)
 }
 
-/// A place in the period, in detector steps: 0 to 16383.
+/// A place in the period, in detector steps: 0 to 16383. `Number` with this place where the field
+/// is not that.
 pub fn step_at(row: &ByteRecord, place: u32) -> Result<u16, TraceFault>
     requires { 0 < place }
     ensures value { result ≡ step_at place (fields_of row.now) }
@@ -55,7 +56,8 @@ pub fn step_at(row: &ByteRecord, place: u32) -> Result<u16, TraceFault>
     Ok(number as u16)
 }
 
-/// A counter of whole periods: 1 to `2^63 - 1`.
+/// A counter of whole periods: 1 to `2^63 - 1`. `Number` with this place where the field is not
+/// that.
 pub fn counter_at(row: &ByteRecord, place: u32) -> Result<u64, TraceFault>
     requires { 0 < place }
     ensures value { result ≡ counter_at place (fields_of row.now) }
@@ -64,7 +66,7 @@ pub fn counter_at(row: &ByteRecord, place: u32) -> Result<u64, TraceFault>
     number_at(row, place, 1, MOST_COUNT)
 }
 
-/// The beat bits: 16 hex digits.
+/// The beat bits: 16 hex digits. `Number` with this place where the field is not that.
 pub fn bits_at(row: &ByteRecord, place: u32) -> Result<u64, TraceFault>
     requires { 0 < place }
     ensures { result ≡ bits_at place (fields_of row.now) }
@@ -75,7 +77,8 @@ pub fn bits_at(row: &ByteRecord, place: u32) -> Result<u64, TraceFault>
     }
 }
 
-/// The octets of a frame, as hex digits.
+/// The octets of a frame, as hex digits: at most 256 octets. `Number` with this place where the
+/// field is not that.
 pub fn octets_at(row: &ByteRecord, place: u32) -> Result<Frame, TraceFault>
     requires { 0 < place }
     ensures { result ≡ octets_at place (fields_of row.now) }
@@ -86,7 +89,8 @@ pub fn octets_at(row: &ByteRecord, place: u32) -> Result<Frame, TraceFault>
     }
 }
 
-/// The time of a stamp, in tau.
+/// The time of a stamp, in tau: 0 to `2^92`, a multiple of 1,000. `Number` with this place where
+/// the field is not that.
 pub fn time_at(row: &ByteRecord, place: u32) -> Result<Tau, TraceFault>
     requires { 0 < place }
     ensures value { result ≡ time_at place (fields_of row.now) }
@@ -98,7 +102,8 @@ pub fn time_at(row: &ByteRecord, place: u32) -> Result<Tau, TraceFault>
     }
 }
 
-/// The raw stamp of a reception: RISING, FALLING and TAG, from a place on.
+/// The raw stamp of a reception: RISING, FALLING and TAG, from a place on. `Number` with the place
+/// of the first of the three that is out of its range.
 pub fn raw_from(row: &ByteRecord, place: u32) -> Result<Raw, TraceFault>
     requires { (0 < place) × (place < 2 ^ 16) }
     ensures value { result ≡ raw_from place (fields_of row.now) }
@@ -114,7 +119,8 @@ pub fn raw_from(row: &ByteRecord, place: u32) -> Result<Raw, TraceFault>
     })
 }
 
-/// The stamp of a sending: STAMP and SAMPLE, from a place on.
+/// The stamp of a sending: STAMP and SAMPLE, from a place on. `Number` with the place of the first
+/// of the two that is out of its range.
 pub fn stamp_from(row: &ByteRecord, place: u32) -> Result<Stamp, TraceFault>
     requires { (0 < place) × (place < 2 ^ 16) }
     ensures value { result ≡ stamp_from place (fields_of row.now) }
@@ -125,7 +131,8 @@ pub fn stamp_from(row: &ByteRecord, place: u32) -> Result<Stamp, TraceFault>
     Ok(Stamp { value, sample })
 }
 
-/// A port of the node: a number first, and then one of the node's ports.
+/// A port of the node: a number first, and then one of the node's ports. `Number` with this place
+/// where it is no number of 16 bits, `Name` where it is no port of the node.
 pub fn port_at(row: &ByteRecord, place: u32, net: &Network, node: u8) -> Result<u16, TraceFault>
     requires { 0 < place }
     ensures value { result ≡ port_at (line_setting_of net.now node) place (fields_of row.now) }
@@ -140,7 +147,8 @@ pub fn port_at(row: &ByteRecord, place: u32, net: &Network, node: u8) -> Result<
     }
 }
 
-/// Which message was sent: `sync` is false, `delay` is true.
+/// Which message was sent: `sync` is false, `delay` is true. `Name` with this place where the field
+/// is neither.
 pub fn message_at(row: &ByteRecord, place: u32) -> Result<bool, TraceFault>
     requires { 0 < place }
     ensures { result ≡ message_at place (fields_of row.now) }
@@ -155,7 +163,8 @@ pub fn message_at(row: &ByteRecord, place: u32) -> Result<bool, TraceFault>
     }
 }
 
-/// The module at a port of the node: a listed one, or `unlisted`.
+/// The module at a port of the node: a listed one, or `unlisted`. The answer is None for
+/// `unlisted`. `Name` with this place where the field is neither.
 pub fn module_at(
     row: &ByteRecord,
     place: u32,

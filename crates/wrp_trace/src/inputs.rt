@@ -23,7 +23,9 @@ use wrp_node::Input;
 const KIND: u32 = 1;
 
 /// Puts what the fields of a line say to a node into `input`, which stays as it was where they say
-/// nothing. An input has room for a whole frame: one place serves line after line.
+/// nothing. An input has room for a whole frame: one place serves line after line. `Kind` where the
+/// first field is no kind that the node has, else `Fields` where there is another number of fields,
+/// else `Number` or `Name` with the place of the first field that says nothing.
 pub fn read_input_fields(
     row: &ByteRecord,
     net: &Network,
@@ -156,7 +158,8 @@ fn read_row(row: &ByteRecord, net: &Network, node: u8) -> Result<Input, TraceFau
     }
 }
 
-/// What a line says to a node.
+/// What a line says to a node. `Fields` where the line is not plain, else the faults of
+/// [`read_input_fields`]. `Memory` where there is no memory to read it.
 pub fn read_input(alloc: Global, line: &[u8], net: &Network, node: u8) -> Result<Input, TraceFault>
     ensures value { IsReading (read_of (line_setting_of net.now node) line.now) result }
     ensures input { IfOk result (IsInputAt (line_setting_of net.now node)) }

@@ -102,7 +102,8 @@ fn among(kinds: &[InputKind], net: &Network, node: u8, word: &[u8]) -> Option<In
         .find(|kind| is_kind(net, node, *kind, word))
 }
 
-/// The kind of a line at a node, by its first field.
+/// The kind of a line at a node, by its first field. None exactly where the node has no kind with
+/// this word.
 #[tactic(auto, using(crate::proofs::KindLemmas::has_kind_found))]
 pub fn kind_of(net: &Network, node: u8, word: &[u8]) -> Option<InputKind>
     ensures value { result ≡ kind_of (line_setting_of net.now node) word.now }

@@ -63,8 +63,8 @@ fn module_of(net: &Network, node: u8, port: u16, name: &[u8]) -> Option<Module>
     entry_of(net, name, tx_nm, rx_nm)
 }
 
-/// The module that a text names at a port of a node: `unlisted` stands for one that the database does
-/// not list. None where the name is neither.
+/// The module that a text names at a port of a node: `unlisted` stands for one that the database
+/// does not list, and then the answer is Some of None. None where the name is neither.
 pub fn named_at(net: &Network, node: u8, port: u16, name: &[u8]) -> Option<Option<Module>>
     ensures value { result ≡ named_at (line_setting_of net.now node) port name.now }
     ensures listed { IfSome result (IsListed (line_setting_of net.now node) port) }

@@ -153,7 +153,8 @@ fn command_of<'a>(
     }
 }
 
-/// The command that the words are, or None where they are none.
+/// The command that the words are, or None where they are none. `AllocError` where there is no
+/// memory to read them.
 pub fn read_words<'a>(
     alloc: Global,
     words: &'a [&'a str],

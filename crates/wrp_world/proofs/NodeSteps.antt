@@ -26,7 +26,7 @@ use Rattle.wrp_node.specs.NodeRun.{IsSaid, dac_out, est_out, node_after, outputs
 use Rattle.wrp_node.specs.Node.{is_tick}
 use Rattle.wrp_node.specs.NodeStep.{node_step}
 use Rattle.wrp_node.specs.New.{OfDifferentNumbers}
-use Rattle.wrp_node.specs.Sends.{frames_at, is_port}
+use Rattle.wrp_node.specs.Sends.{frames_at, is_own_port}
 use Rattle.wrp_node.specs.Set.{master_at, slave_at, ports_at, set_of}
 use Rattle.wrp_node.specs.Spelled.{AreSpelled}
 use Rattle.wrp_node.specs.StandsFor.{IsAt, NodeOf, StandsFor as NodeStandsFor, Steps}
@@ -87,7 +87,7 @@ pub record NodeStepped {F : Type 0} (post : F → ℤ → ℤ → Type 0) (fixed
   pub outputs : put_out ≡ outputs_of fixed t.input n (node_step fixed t n)
   pub at : (node_step fixed t n).node ≡ node_after fixed (t ∷ inputs)
   pub stands : NodeStandsFor post fixed node (t ∷ inputs)
-  pub spelled : (p : ℕ) → is_port fixed p ≡ true → AreSpelled ((node_step fixed t n).sends p)
+  pub spelled : (p : ℕ) → is_own_port fixed p ≡ true → AreSpelled ((node_step fixed t n).sends p)
 
 stepped_after : {F : Type 0} (post : F → ℤ → ℤ → Type 0) (fixed : NodeSetting) (inputs : List Taken) (input : Input) (says other : Result PtpMsg FrameFault) (y answer : ℤ) (old new : NodeOf F) (put_out : List Output) →
     Steps post old new (took input says answer) put_out → NodeStandsFor post fixed old inputs → IsSaid input other → (is_frame input ≡ true → y ≡ answer) →
@@ -255,7 +255,7 @@ end_among net n (link ∷ links) (suc k) r end e h =
 
 -- each end of a link that is a node's is one of the node's ports
 pub end_is_port : (s : Setting) (n k : ℕ) (r : Role) (end : End) → s.set n ≡ set_of s.cfg n → end_at s k r ≡ Some end → end.node ≡ n →
-    is_port (node_setting_of s n) end.port ≡ true
+    is_own_port (node_setting_of s n) end.port ≡ true
 end_is_port s n k r end set e h = ap (λ (x : NodeSet). has_port end.port x.ports.items) set ∙ end_among s.cfg n s.cfg.links.items k r end e h
 
 pub ports_differ : (s : Setting) (n : ℕ) → s.set n ≡ set_of s.cfg n → NamesNoPortTwice s.cfg → OfDifferentNumbers (s.set n).ports.items
@@ -277,17 +277,17 @@ pub record SteppedAt {F : Type 0} (post : F → ℤ → ℤ → Type 0) (s : Set
 
 frames_are : {F : Type 0} (post : F → ℤ → ℤ → Type 0) (s : Setting) (v : WorldAt) (put y : ℤ) (g : Given) (old new : NodeOf F) (out : NodeOut) (put_out : List Output) (news : News) →
     SteppedAt post s v put y g old new out put_out news → (p : ℕ) →
-    frames_at p put_out ≡ (if is_port (node_setting_of s g.to) p then map octets_of ((step_of s y v g).sends p) else [])
+    frames_at p put_out ≡ (if is_own_port (node_setting_of s g.to) p then map octets_of ((step_of s y v g).sends p) else [])
 frames_are post s v put y g old new out put_out news h p =
     ap (frames_at p) h.stepped.outputs
     ∙ sends_are_put_out (node_setting_of s g.to) (taken_of y g) (v.node g.to) p (ports_differ s g.to h.set h.once)
 
 port_told : {F : Type 0} (post : F → ℤ → ℤ → Type 0) (s : Setting) (v : WorldAt) (put y : ℤ) (g : Given) (old new : NodeOf F) (out : NodeOut) (put_out : List Output) (news : News) →
-    SteppedAt post s v put y g old new out put_out news → (p : ℕ) → is_port (node_setting_of s g.to) p ≡ true → IsPortOf s v g (step_of s y v g) news put_out p
+    SteppedAt post s v put y g old new out put_out news → (p : ℕ) → is_own_port (node_setting_of s g.to) p ≡ true → IsPortOf s v g (step_of s y v g) news put_out p
 port_told post s v put y g old new out put_out news h p here = record {
   frames =
       subst (λ (fs : List (List ℕ)). AllZip IsSent ((step_of s y v g).sends p) fs)
-      (sym (frames_are post s v put y g old new out put_out news h p ∙ where_true (is_port (node_setting_of s g.to) p) (map octets_of ((step_of s y v g).sends p)) [] here))
+      (sym (frames_are post s v put y g old new out put_out news h p ∙ where_true (is_own_port (node_setting_of s g.to) p) (map octets_of ((step_of s y v g).sends p)) [] here))
       (are_sent ((step_of s y v g).sends p) (h.stepped.spelled p here));
   before =
       h.news_is.before p (among_is_port (node_setting_of s g.to) old.parts.ports p h.before.is_at.parts.numbers ∙ here) (node_setting_of s g.to) (v.inputs g.to) h.before
@@ -314,7 +314,7 @@ pub sends_few : {F : Type 0} (post : F → ℤ → ℤ → Type 0) (s : Setting)
     SteppedAt post s v put y g old new out put_out news → SendsFew put_out
 sends_few post s v put y g old new out put_out news h p =
     subst (λ (fs : List (List ℕ)). length fs ≤ 4) (sym (frames_are post s v put y g old new out put_out news h p))
-    (few_where (is_port (node_setting_of s g.to) p) ((step_of s y v g).sends p) (sends_are_few (node_setting_of s g.to) (taken_of y g) (v.node g.to) p))
+    (few_where (is_own_port (node_setting_of s g.to) p) ((step_of s y v g).sends p) (sends_are_few (node_setting_of s g.to) (taken_of y g) (v.node g.to) p))
 
 asked : {F : Type 0} (world : WorldOf F) (input : Input) (cycles : ℤ) → Asks world input → (is_frame input ≡ false → cycles ≡ pos 0) → unsigned_abs cycles ≤ 2 ^ 62 →
     (cycles ≡ pos 0) ⊎ ((unsigned_abs cycles ≤ 2 ^ 62) × NoneStepped world.plant)

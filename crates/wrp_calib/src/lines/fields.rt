@@ -68,7 +68,8 @@ fn time_at(row: &ByteRecord, place: u32) -> Result<i64, TraceFault>
     }
 }
 
-/// What record 1 says: `err,E`.
+/// What record 1 says: `err,E`. `Kind` where the first field is another, `Fields` where there are
+/// not 2 fields, `Number` where E is not 0 to `10^9`.
 pub fn error_line(row: &ByteRecord) -> Result<u64, TraceFault>
     ensures value { says_error result ≡ error_line (fields_of row.now) }
     ensures range { IfOk result (λ e. e ≤ 10 ^ 9) }
@@ -82,7 +83,9 @@ pub fn error_line(row: &ByteRecord) -> Result<u64, TraceFault>
     error_at(row, 2)
 }
 
-/// What record 2 says: `patch,D,EP`.
+/// What record 2 says: `patch,D,EP`. `Kind` where the first field is another, `Fields` where there
+/// are not 3 fields, `Number` for the first of D, 0 to `10^15`, and EP, 0 to `10^9`, that is not
+/// that.
 pub fn cord_line(row: &ByteRecord) -> Result<Cord, TraceFault>
     ensures value { says_cord result ≡ cord_line (fields_of row.now) }
     ensures d { IfOk result (λ cord. cord.d ≤ 10 ^ 15) }
@@ -116,6 +119,8 @@ fn run_said(row: &ByteRecord, kind: RunKind) -> Result<RunLine, TraceFault>
 }
 
 /// What each further record says: `ref,T1,T2,T3,T4,SKEW`, or the same with `straight` or `swapped`.
+/// `Kind` where the first field is no such word, `Fields` where there are not 6 fields, `Number`
+/// for the first number that is not within `2^60` either way.
 pub fn run_line(row: &ByteRecord) -> Result<RunLine, TraceFault>
     ensures value { says_run result ≡ run_line (fields_of row.now) }
     ensures range { IfOk result (λ run. All (λ n. unsigned_abs n ≤ 2 ^ 60) run.times) }

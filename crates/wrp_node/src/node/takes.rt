@@ -1,8 +1,6 @@
 //! What a node does with each kind of input.
-ghost use Rattle.std.specs.Prelude.{◌≡◌, ◌<◌, ◌+◌, ◌^◌, true, Some};
+ghost use Rattle.std.specs.Prelude.{◌≡◌, ◌<◌, ◌+◌, ◌^◌, true};
 ghost use Rattle.wrp_base.specs.Message.{IsSound};
-ghost use Rattle.wrp_data.specs.Reason.{IsReason};
-ghost use Rattle.wrp_frame.specs.Faults.{fault_number};
 ghost use Rattle.wrp_node.specs.Control.{HasTick, KeepsLaw, law_in};
 ghost use Rattle.wrp_node.specs.Node.{FitsInput, HasTickFor, NodeLeads, NodeTakes, PortsTick, TakesFrame, TakesMessage, Takes, servo_has_tick, servo_has_sample, ticked, restarts, sent_at, carried_at};
 ghost use Rattle.wrp_node.specs.Parts.{FitsRaw, is_among};
@@ -13,7 +11,7 @@ use super::Node;
 use crate::Input;
 use crate::ports::To;
 use wrp_base::{Frame, Module, PtpMsg, Raw, Stamp};
-use wrp_frame::{FrameFault, decode};
+use wrp_frame::decode;
 use wrp_port::PortIn;
 
 impl<F: Fn(i64) -> i64> Node<F> {
@@ -177,7 +175,7 @@ impl<F: Fn(i64) -> i64> Node<F> {
     {
         match decode(bytes.as_slice()) {
             Ok(message) => self.message(port, &message, raw, sample),
-            Err(fault) => self.parts.count(port, Some(number_of(fault))),
+            Err(fault) => self.parts.count(port, Some(fault.number())),
         }
     }
 
@@ -196,22 +194,5 @@ impl<F: Fn(i64) -> i64> Node<F> {
             let out = self.control.measured(&four);
             self.parts.take_answer(&out, 0);
         }
-    }
-}
-
-// The number of the reason that a fault is: 1 to 8.
-fn number_of(fault: FrameFault) -> u8
-    ensures value { result ≡ fault_number fault }
-    ensures reason { IsReason (Some result) }
-{
-    match fault {
-        FrameFault::Short => 1,
-        FrameFault::Version => 2,
-        FrameFault::Kind => 3,
-        FrameFault::Length => 4,
-        FrameFault::Time => 5,
-        FrameFault::Tlv => 6,
-        FrameFault::BadWr => 7,
-        FrameFault::OneStep => 8,
     }
 }

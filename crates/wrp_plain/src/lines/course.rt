@@ -23,7 +23,8 @@ pub struct PlainRun {
 }
 
 impl PlainRun {
-    /// A world before the line of its first event.
+    /// A world before the line of its first event. `AllocError` where there is no memory for it:
+    /// nothing is made.
     pub fn new(alloc: Global, start: PlainStart) -> Result<PlainRun, AllocError>
         requires set { HasRanges start.set }
         requires off { unsigned_abs start.off ≤ 2 ^ 62 }
@@ -35,8 +36,9 @@ impl PlainRun {
         Ok(PlainRun { world, ticks: 0 })
     }
 
-    /// Takes the event that the record of this number says, and appends what it writes, or the line that
-    /// names the premise that it breaks.
+    /// Takes the event that the record of this number says, and appends what it writes, or the line
+    /// that names the premise that it breaks. `AllocError` where there is no memory: then nothing
+    /// is known of `text`, nor whether the event was taken.
     pub fn happen(
         &mut self,
         alloc: Global,

@@ -60,7 +60,8 @@ fn among(kinds: &[LineKind], word: &[u8]) -> Option<LineKind>
     kinds.iter().copied().find(|kind| is_word(*kind, word))
 }
 
-/// The kind of a line behind the first, by its first field.
+/// The kind of a line behind the first, by its first field. None exactly where no kind has this
+/// word.
 pub fn kind_of(word: &[u8]) -> Option<LineKind>
     ensures { result ≡ kind_of word.now }
 {

@@ -7,8 +7,9 @@ use crate::event::PlainSeen;
 use crate::settings::PlainReport;
 use std::alloc::{AllocError, Global};
 
-/// Appends the lines of what an event gave, at this tick count: that of its report, where it has one,
-/// and behind it that of its command, where it is not 0.
+/// Appends the lines of what an event gave, at this tick count: that of its report, where it has
+/// one, and behind it that of its command, where it is not 0. `AllocError` where there is no
+/// memory: then nothing is known of `text`.
 pub fn append_seen(
     alloc: Global,
     tick: u32,

@@ -153,7 +153,9 @@ fn is_param(word: &[u8]) -> bool
     word == b"param".as_slice()
 }
 
-/// What the first line says, by its parts. A line that is not plain has none.
+/// What the first line says, by its parts. A line that is not plain has none: `Fields` there; else
+/// `Kind` where the first field is another, `Fields` where there is another number of fields, and
+/// `Number` with the place of the first that is out of its range.
 pub fn read_start(line: &[u8], parts: Option<&ByteRecord>) -> Result<PlainStart, TraceFault>
     requires { IsSplit line.now parts }
     ensures value { result ≡ start_read line.now }
@@ -225,7 +227,9 @@ fn event_of(row: &ByteRecord) -> Result<PlainEvent, TraceFault>
     }
 }
 
-/// The event that a line behind the first says, by its parts. A line that is not plain has none.
+/// The event that a line behind the first says, by its parts. A line that is not plain has none:
+/// `Fields` there; else `Kind` where the first field is no kind, `Fields` where there is another
+/// number of fields, and `Number` with the place of the first that is out of its range.
 pub fn read_event(line: &[u8], parts: Option<&ByteRecord>) -> Result<PlainEvent, TraceFault>
     requires { IsSplit line.now parts }
     ensures value { result ≡ event_read line.now }

@@ -163,7 +163,8 @@ fn handle_plain<M: Machine>(
     )
 }
 
-/// Handles the lines that a reader holds, up to the first that is not whole or not plain.
+/// Handles the lines that a reader holds, up to the first that is not whole or not plain. None
+/// where no line ended the run.
 pub fn handle_held<M: Machine>(
     alloc: Global,
     machine: &mut M,

@@ -81,7 +81,7 @@ fn among(kinds: &[SceneKind], word: &[u8]) -> Option<SceneKind>
     kinds.iter().copied().find(|kind| is_word(*kind, word))
 }
 
-/// The kind of a line, by its first field.
+/// The kind of a line, by its first field. None exactly where no kind has this word.
 pub fn kind_of(word: &[u8]) -> Option<SceneKind>
     ensures { result ≡ kind_of word.now }
 {

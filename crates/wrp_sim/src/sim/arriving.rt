@@ -2,7 +2,6 @@
 ghost use Rattle.std.specs.Prelude.{◌≡◌, ◌<◌, length, Some};
 ghost use Rattle.wrp_network.specs.declared.configuration.NetCfg.{NetCfg};
 ghost use Rattle.wrp_sim.specs.Draws.{next_state};
-ghost use Rattle.wrp_course.specs.Premises.{transition_of};
 ghost use Rattle.wrp_sim.specs.Numbers as number;
 ghost use Rattle.wrp_sim.specs.Rules as rule;
 ghost use Rattle.wrp_sim.specs.Sim.{FitsSim, Follows, Gave, IsDue, IsOnFibre, SimIs, StaysFit, as_is, put};
@@ -14,8 +13,9 @@ ghost use Rattle.wrp_course.specs.WorldAt.{WorldAt};
 use super::pure::{is_at, is_within, raw_at};
 use super::state::{Handed, State};
 use crate::draws::Draws;
-use wrp_base::{Module, Raw, Tau};
+use wrp_base::{Raw, Tau};
 use wrp_course::Place;
+use wrp_stamp::transition_of;
 use wrp_world::{Event, World};
 
 // Draws whether something happens that does so often of 1000 times.
@@ -36,16 +36,6 @@ fn times(lost: bool, repeated: bool) -> u8
         2
     } else {
         1
-    }
-}
-
-// The transition tag of a module, 0 where it is not listed.
-fn transition_of(entry: Option<Module>) -> u16
-    ensures { result ≡ transition_of entry }
-{
-    match entry {
-        Some(entry) => entry.transition,
-        None => 0,
     }
 }
 

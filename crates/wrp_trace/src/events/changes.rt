@@ -9,7 +9,7 @@ use wrp_fields::number;
 // The greatest change, in tau: 2^63 - 1.
 const MOST_CHANGE: i128 = (1 << 63) - 1;
 
-/// A change, in tau: within 2^63 - 1.
+/// A change, in tau: within 2^63 - 1. None where the text is no such number.
 pub fn change_in(text: &[u8]) -> Option<i64>
     ensures value { result ≡ change_in text.now }
     ensures range { IfSome result IsChange }
@@ -20,7 +20,8 @@ pub fn change_in(text: &[u8]) -> Option<i64>
     }
 }
 
-/// MS/SM.
+/// MS/SM: the changes of both ways, each in tau and within 2^63 - 1. None where one of them is no
+/// such number.
 pub fn move_in(text: &[u8]) -> Option<(i64, i64)>
     ensures value { result ≡ move_in text.now }
     ensures range { IfSome result IsMove }

@@ -14,7 +14,8 @@ const MOST_SPAN: i128 = (1 << 63) - 1;
 // The greatest offset, in tau: 2^90.
 const MOST_OFFSET: i128 = 1 << 90;
 
-/// How much true time passes, in tau: 1 to `2^63 - 1`.
+/// How much true time passes, in tau: 1 to `2^63 - 1`. `Number` with this place where the field is
+/// not that.
 pub fn span_at(row: &ByteRecord, place: u32) -> Result<i64, TraceFault>
     requires { 0 < place }
     ensures value { result ≡ span_at place (fields_of row.now) }
@@ -26,7 +27,7 @@ pub fn span_at(row: &ByteRecord, place: u32) -> Result<i64, TraceFault>
     }
 }
 
-/// A one-way delay, in tau: 0 to `2^63 - 1`.
+/// A one-way delay, in tau: 0 to `2^63 - 1`. `Number` with this place where the field is not that.
 pub fn delay_at(row: &ByteRecord, place: u32) -> Result<Tau, TraceFault>
     requires { 0 < place }
     ensures value { result ≡ delay_at place (fields_of row.now) }
@@ -38,7 +39,7 @@ pub fn delay_at(row: &ByteRecord, place: u32) -> Result<Tau, TraceFault>
     }
 }
 
-/// A clock's offset, in tau: within `2^90`.
+/// A clock's offset, in tau: within `2^90`. `Number` with this place where the field is not that.
 pub fn offset_at(row: &ByteRecord, place: u32) -> Result<Tau, TraceFault>
     requires { 0 < place }
     ensures value { result ≡ offset_at place (fields_of row.now) }

@@ -105,7 +105,7 @@ fn among(kinds: &[EventKind], word: &[u8]) -> Option<EventKind>
     kinds.iter().copied().find(|kind| is_word(*kind, word))
 }
 
-/// The kind of a line, by its first field.
+/// The kind of a line, by its first field. None exactly where no kind has this word.
 pub fn kind_of(word: &[u8]) -> Option<EventKind>
     ensures { result ≡ kind_of word.now }
 {

@@ -443,7 +443,9 @@ fn room(cfg: &NetCfg)
     let _links = cfg.links.len();
 }
 
-/// Writes what the further fields of a `pass` say: the changes of all nodes and links, 0 where nothing is said.
+/// Writes what the further fields of a `pass` say: the changes of all nodes and links, 0 where
+/// nothing is said. `Number` or `Name` with the place of the first field that says nothing, or says
+/// a second time what an earlier one said: then nothing is known of the changes.
 pub fn changes_into(
     row: &ByteRecord,
     cfg: &NetCfg,

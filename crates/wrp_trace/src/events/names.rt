@@ -8,7 +8,7 @@ use std::str;
 use wrp_caldb::{is_name, name_of};
 use wrp_network::Name;
 
-/// The text of a name; none where octets are no name.
+/// The text of a name; None exactly where the octets are no name.
 #[tactic(auto, using(crate::proofs::NameLemmas::no_utf8_no_name))]
 pub fn name_in(text: &[u8]) -> Option<Name>
     ensures { option_map (λ name. name.bytes) result

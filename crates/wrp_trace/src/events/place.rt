@@ -153,7 +153,9 @@ fn read_kind_into(
     }
 }
 
-/// Puts what the fields of a line say into a place, of whose event nothing is said where they say none.
+/// Puts what the fields of a line say into a place, of whose event nothing is said where they say
+/// none. `Kind` where the first field is no kind, else `Fields` where there is another number of
+/// fields, else `Number` or `Name` with the place of the first field that says nothing.
 pub fn read_event_into(
     row: &ByteRecord,
     net: &Network,

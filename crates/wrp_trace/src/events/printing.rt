@@ -19,7 +19,7 @@ use wrp_config::Network;
 use wrp_course::{Event, Swap};
 use wrp_network::{LinkCfg, NetCfg, NodeCfg};
 
-/// The line of an event, without LF.
+/// The line of an event, without LF. `AllocError` where there is no memory for it.
 pub fn event_line(alloc: Global, e: &Event, net: &Network) -> Result<Vec<u8>, AllocError>
     requires accepted { IsAccepted net.now.cfg net.now.db }
     requires printable { IsEventOf net.now.cfg e.now }

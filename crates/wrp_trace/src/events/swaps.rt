@@ -118,7 +118,7 @@ fn place_of(at: usize) -> u32
     at as u32 + 1
 }
 
-/// What the further fields of an `up` say.
+/// What the further fields of an `up` say. The fault is that of the first field that says none.
 #[tactic(auto, using(crate::proofs::SwapLemmas::goes, crate::proofs::SwapLemmas::more_swaps))]
 pub fn swaps_at(row: &ByteRecord) -> Result<Swaps, TraceFault>
     requires { length (fields_of row.now) ≤ 21 }

@@ -1,6 +1,6 @@
 -- A Delay_Resp that a slave's exchange is given tells the arrival of its newest Delay_Req, and so the chain's constant and
 -- both ways.
-use Rattle.std.proofs.Common.{◌≡◌, ◌∙◌, ap, sym, subst, ℕ, ◌*◌, ◌≤◌, ℤ, pos, ◌+ℤ◌, ◌-ℤ◌, ◌≤ℤ◌, unsigned_abs, true, List, [], ◌∷◌, ◌++◌, length, Some, arith}
+use Rattle.std.proofs.Common.{◌≡◌, ◌∙◌, ap, sym, subst, ℕ, ◌*◌, ◌%◌, ◌≤◌, ℤ, pos, ◌+ℤ◌, ◌-ℤ◌, ◌≤ℤ◌, unsigned_abs, true, List, [], ◌∷◌, ◌++◌, length, Some, arith}
 use Rattle.std.proofs.lemmas.Int.{ints}
 use Rattle.std.specs.Prelude.{IfSome}
 use Rattle.std.proofs.lemmas.Option.{same_Some}
@@ -20,9 +20,10 @@ use Rattle.wrp_bounds.specs.Times.{frame_life}
 use Rattle.wrp_exch.specs.declared.delay.Sent.{Sent}
 use Rattle.wrp_exch.specs.DelayPair.{pair_of_sent}
 use Rattle.wrp_node.specs.NodeAt.{link_at}
-use Rattle.wrp_node.specs.NodeStep.{stamp_of, transition_of}
+use Rattle.wrp_base.specs.Clock.{steps_of_period}
+use Rattle.wrp_node.specs.NodeStep.{stamp_of}
+use Rattle.wrp_stamp.specs.Merge.{transition_of, merged}
 use Rattle.wrp_port.specs.Wire.{corrected_by, earlier_by, timestamp_of}
-use Rattle.wrp_stamp.specs.Merge.{merged}
 use Rattle.wrp_tracking.specs.Chain.{FlewAt}
 use Rattle.wrp_tracking.specs.DelayPieces.{PairTrue}
 use Rattle.wrp_tracking.specs.History.{Was}
@@ -174,7 +175,7 @@ time_told : (c : Given) (events : List Happened) (z : Sending) (receive : Ts) (r
     earlier_by receive z.message.head.correction ≡ (stamp_at c a.handed a.it.arrival.raw a.it.arrival.sample).value
 time_told c events z receive requesting body a =
     let y : PtpMsg = a.it.frame.sending.message in
-    let transition : ℕ = transition_of (link_at (c.s.set c.link.upper) ((world_after c.s a.handed).node c.link.upper) c.link.upper_port).own_module in
+    let transition : ℕ = transition_of (link_at (c.s.set c.link.upper) ((world_after c.s a.handed).node c.link.upper) c.link.upper_port).own_module % steps_of_period in
     let n : ℕ = merged (c.s.set c.link.upper).servo.clock a.it.arrival.raw transition in
     let put_in : WasPut c.s a.handed c.k Slave a.it.frame.sending = was_put c.s a.handed c.k Slave a.it.frame.sending a.put in
     let whole : y.head.correction ≡ pos 0 = (sent_timed c.laws.opens.quiet.links c.s put_in.older c.k Slave c.link a.it.frame.sending c.is a.it.request put_in.in_it).plain in

@@ -10,6 +10,7 @@ use Rattle.wrp_network.specs.declared.network.LinkCfg.{LinkCfg}
 use Rattle.wrp_network.specs.declared.network.NodeCfg.{NodeCfg}
 use Rattle.wrp_base.specs.declared.time.Clock.{Clock}
 use Rattle.wrp_base.specs.declared.time.Clock.TheVariants.{Mhz125, Mhz62}
+use Rattle.wrp_base.specs.Clock.{steps_of_period}
 use Rattle.wrp_base.specs.declared.time.Raw.{Raw}
 use Rattle.wrp_network.specs.Network.{End}
 use Rattle.wrp_base.specs.Link.{other_of}
@@ -19,13 +20,12 @@ use Rattle.wrp_caldb.specs.Name.{same_name}
 use Rattle.wrp_config.specs.Accepted.{HasDelayRanges, IsSoundDatabase, IsSoundModule}
 use Rattle.wrp_node.specs.declared.interface.NodeSet.{NodeSet}
 use Rattle.wrp_node.specs.NodeAt.{link_at}
-use Rattle.wrp_node.specs.NodeStep.{stamp_of, transition_of as node_transition}
-use Rattle.wrp_stamp.specs.Merge.{merged, quarter_of}
+use Rattle.wrp_node.specs.NodeStep.{stamp_of}
+use Rattle.wrp_stamp.specs.Merge.{merged, quarter_of, transition_of}
 use Rattle.wrp_stamp.specs.StampBound.{KeepsStampBound, MergedWithinTag}
 use Rattle.wrp_course.specs.EventAt.{IsRaw}
 use Rattle.wrp_course.specs.Laws.{KeepsStamp}
 use Rattle.wrp_course.specs.LinkEnds.{in_place}
-use Rattle.wrp_course.specs.Premises.{transition_of}
 use Rattle.wrp_course.specs.Run.{Happened, world_after}
 use Rattle.wrp_course.specs.RunLaws.{ModulesStay}
 use Rattle.wrp_course.specs.Runs.{IsNetwork, IsRun}
@@ -74,7 +74,7 @@ in_link s r name x (Some link) net e = in_module s.db (sends_nm r link) (sends_n
 small_rest : (t : ℕ) → t ≤ 16_383 → t % 16_384 ≡ t
 small_rest t h = omega (arith, h)
 
-same_transition : (s : Setting) (k : ℕ) (r : Role) (name : List ℕ) (o : Option Module) → IsNetwork s → entry_at s k r name ≡ o → node_transition o ≡ transition_of o
+same_transition : (s : Setting) (k : ℕ) (r : Role) (name : List ℕ) (o : Option Module) → IsNetwork s → entry_at s k r name ≡ o → transition_of o % steps_of_period ≡ transition_of o
 same_transition s k r name None net e = refl
 same_transition s k r name (Some x) net e = small_rest x.transition (in_link s r name x (link_of s k) net e).transition
 
@@ -141,11 +141,11 @@ stamp_near laws s newer older k r link f raw sample run is carried it =
     let own : (link_at (s.set end.node) (w.node end.node) end.port).own_module ≡ in_place s w k r = (laws.modules s events k r link run is lit).1 in
     let name : (w.end_at k r).name ≡ ((world_after s older).end_at k r).name = names_stay laws.stays s newer older k r run carried in
     let module_is : (link_at (s.set end.node) (w.node end.node) end.port).own_module ≡ in_place s (world_after s older) k r = own ∙ ap (entry_at s k r) name in
-    let transition : node_transition (link_at (s.set end.node) (w.node end.node) end.port).own_module ≡ transition_of (in_place s (world_after s older) k r) =
-    ap node_transition module_is ∙ same_transition s k r ((world_after s older).end_at k r).name (in_place s (world_after s older) k r) run.network refl in
+    let transition : transition_of (link_at (s.set end.node) (w.node end.node) end.port).own_module % steps_of_period ≡ transition_of (in_place s (world_after s older) k r) =
+    ap (λ (m : Option Module). transition_of m % steps_of_period) module_is ∙ same_transition s k r ((world_after s older).end_at k r).name (in_place s (world_after s older) k r) run.network refl in
     let clock : (s.set end.node).servo.clock ≡ s.cfg.clock = ap (λ (x : NodeSet). x.servo.clock) (run.network.set end.node) in
-    let stamp : merged (s.set end.node).servo.clock raw (node_transition (link_at (s.set end.node) (w.node end.node) end.port).own_module) ≡ merged s.cfg.clock raw (transition_of (in_place s (world_after s older) k r)) =
-    ap (λ c. merged c raw (node_transition (link_at (s.set end.node) (w.node end.node) end.port).own_module)) clock ∙ ap (merged s.cfg.clock raw) transition in
+    let stamp : merged (s.set end.node).servo.clock raw (transition_of (link_at (s.set end.node) (w.node end.node) end.port).own_module % steps_of_period) ≡ merged s.cfg.clock raw (transition_of (in_place s (world_after s older) k r)) =
+    ap (λ c. merged c raw (transition_of (link_at (s.set end.node) (w.node end.node) end.port).own_module % steps_of_period)) clock ∙ ap (merged s.cfg.clock raw) transition in
     subst (λ v. unsigned_abs (pos v -ℤ reading (world_after s older) end.node) ≤ of_node (λ node. node.e_tag) s end.node) (sym stamp)
     (laws.merged s.cfg.clock raw (transition_of (in_place s (world_after s older) k r)) (of_node (λ node. node.e_tag) s end.node) (reading (world_after s older) end.node)
     (some_more raw.falling it.ranges.falling.0) (tag_room s end.node (slice_get s.cfg.nodes.items end.node) run.network refl) (keeps_there s older k r link f raw is it))

@@ -6,27 +6,17 @@ ghost use Rattle.wrp_course.specs.Setting.{has_port};
 ghost use Rattle.wrp_course.specs.Given.{goes_at, goes_from};
 ghost use Rattle.wrp_plant.specs.Giving.{Adds, comes_over, comes_over_both};
 ghost use Rattle.wrp_plant.specs.Plant.{FitsPlant, PlantIs};
-ghost use Rattle.wrp_course.specs.Setting.{Setting, end_at, entry_at, sends_nm as sends_in};
+ghost use Rattle.wrp_course.specs.Setting.{Setting, end_at, entry_at};
 ghost use Rattle.wrp_course.specs.WorldAt.{WorldAt};
 
 use super::super::Plant;
 use super::listing::{Gift, add};
 use crate::plant::views::port_of;
 use std::alloc::AllocError;
-use wrp_base::{Module, Role};
-use wrp_course::{NodeOut, Place};
-use wrp_network::{LinkCfg, Name};
+use wrp_base::Module;
+use wrp_course::{NodeOut, Place, other_of, sends_nm};
+use wrp_network::Name;
 use wrp_node::Input;
-
-// The role at the other end.
-fn other_of(role: Role) -> Role
-    ensures { result ≡ other_of role }
-{
-    match role {
-        Role::Master => Role::Slave,
-        Role::Slave => Role::Master,
-    }
-}
 
 /// The other end of the link.
 pub fn other_end(place: Place) -> Place
@@ -35,16 +25,6 @@ pub fn other_end(place: Place) -> Place
     Place {
         link: place.link,
         role: other_of(place.role),
-    }
-}
-
-// The wavelength that an end sends.
-fn sends_nm(link: &LinkCfg, role: Role) -> u16
-    ensures { result ≡ sends_in role link.now }
-{
-    match role {
-        Role::Master => link.down_nm,
-        Role::Slave => link.up_nm,
     }
 }
 
@@ -69,8 +49,8 @@ impl Plant {
             → result ≡ entry_at s place.link place.role name.now.bytes }
     {
         let link = self.link_cfg(place.link);
-        let sent = sends_nm(link, place.role);
-        let received = sends_nm(link, other_of(place.role));
+        let sent = sends_nm(place.role, link);
+        let received = sends_nm(other_of(place.role), link);
         self.net.db.module_at(name.as_str(), sent, received)
     }
 

@@ -16,19 +16,9 @@ ghost use Rattle.wrp_course.specs.WorldAt.{WorldAt, is_on_fibre};
 
 use super::super::Plant;
 use super::parts::stay;
-use wrp_base::{Raw, Role};
-use wrp_course::Place;
+use wrp_base::Raw;
+use wrp_course::{Place, other_of};
 use wrp_flights::Reception;
-
-// The role at the other end.
-fn other_of(role: Role) -> Role
-    ensures { result ≡ other_of role }
-{
-    match role {
-        Role::Master => Role::Slave,
-        Role::Slave => Role::Master,
-    }
-}
 
 // A frame arrives, and one event is counted.
 fn arrive(plant: &mut Plant, number: u32, from: Place, reception: Reception)

@@ -1,6 +1,5 @@
 //! Which premise a departure or an arrival breaks.
 ghost use Rattle.std.specs.Prelude.{◌≡◌, ◌<◌, ◌≤◌, ◌^◌, ◌-ℤ◌, ◌∷◌, [], ℕ, pos, length, true, unsigned_abs, Some, IfSome, option_map, slice_get, Result};
-ghost use Rattle.wrp_base.specs.Clock.{steps_of_period};
 ghost use Rattle.wrp_base.specs.declared.message.PtpMsg.{PtpMsg};
 ghost use Rattle.wrp_frame.specs.declared.fault.FrameFault.{FrameFault};
 ghost use Rattle.wrp_course.specs.Checks.{told_of};
@@ -19,21 +18,10 @@ use super::super::Plant;
 use crate::checks::stands;
 use crate::ends::PutOut;
 use crate::premises::stamps::{on_time, raw_kept, stamp_kept};
-use wrp_base::{Module, Raw, Tau, sum};
+use wrp_base::{Raw, Tau, sum};
 use wrp_course::{Breach, Place, place_of};
 use wrp_flights::Departed;
-
-// The transition tag of a module, 0 where it is not listed.
-fn transition_of(entry: Option<Module>) -> u16
-    requires { IfSome entry (λ m. m.transition < steps_of_period) }
-    ensures value { result ≡ premise.transition_of entry }
-    ensures most { result < steps_of_period }
-{
-    match entry {
-        Some(entry) => entry.transition,
-        None => 0,
-    }
-}
+use wrp_stamp::transition_of;
 
 // When the first of these was put out.
 fn first_put_out(waiting: &[PutOut]) -> Option<Tau>

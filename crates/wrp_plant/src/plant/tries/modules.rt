@@ -10,7 +10,7 @@ ghost use Rattle.wrp_course.specs.Checks as spec;
 ghost use Rattle.wrp_course.specs.declared.event.Event.TheVariants as event;
 ghost use Rattle.wrp_plant.specs.Plant.{FitsPlant, PlantIs};
 ghost use Rattle.wrp_course.specs.Premises as premise;
-ghost use Rattle.wrp_course.specs.Setting.{Setting, entry_at, sends_nm};
+ghost use Rattle.wrp_course.specs.Setting.{Setting, entry_at};
 ghost use Rattle.wrp_course.specs.WorldAt.{WorldAt};
 
 use super::super::Plant;
@@ -18,20 +18,10 @@ use crate::checks::stands;
 use crate::premises::modules::module_kept;
 use crate::premises::rates::true_at_top;
 use arrayvec::ArrayVec;
-use wrp_base::{Module, Role, Tau};
+use wrp_base::{Module, Tau};
 use wrp_config::link_above;
-use wrp_course::{Breach, Place, Swap, other_of, place_of};
-use wrp_network::{LinkCfg, NetCfg};
-
-// The wavelength that an end sends.
-fn sends_nm(role: Role, link: &LinkCfg) -> u16
-    ensures { result ≡ sends_nm role link.now }
-{
-    match role {
-        Role::Master => link.down_nm,
-        Role::Slave => link.up_nm,
-    }
-}
+use wrp_course::{Breach, Place, Swap, other_of, place_of, sends_nm};
+use wrp_network::NetCfg;
 
 // Whether the link of a number stands above a node.
 fn is_above(cfg: &NetCfg, k: usize, n: u8) -> bool

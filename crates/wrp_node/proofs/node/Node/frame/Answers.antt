@@ -24,7 +24,7 @@ returns-in-Err-clause-takes g c = (
   λ fixed n h.
       let here = inside_in c.self.view_is h in
       record {
-        parts = subst (λ (k : ℕ). PartsIn fixed n (dropped c.args.port k n) c.count.new.self) c.number_of.ensures.value (c.count.ensures fixed n (step_from n) here.parts);
+        parts = subst (λ (k : ℕ). PartsIn fixed n (dropped c.args.port k n) c.count.new.self) c.number.ensures.value (c.count.ensures fixed n (step_from n) here.parts);
         control = here.control;
         report = here.report;
       },

@@ -2,7 +2,7 @@ use Rattle.std.proofs.Common.{◌∙◌, sym, ap, slice_get, arith}
 use Rattle.std.specs.Option.{option_map_or}
 use Rattle.wrp_network.specs.declared.configuration.NetCfg.{NetCfg}
 use Rattle.wrp_network.specs.declared.network.NodeCfg.{NodeCfg}
-use Rattle.wrp_course.specs.Premises.{transition_of}
+use Rattle.wrp_stamp.specs.Merge.{transition_of}
 use Rattle.wrp_course.specs.Setting.{entry_at}
 use Rattle.wrp_plant.proofs.SignedReads.{read}
 use Rattle.wrp_plant.proofs.TriedFrames.{raw_told}

@@ -1,7 +1,7 @@
 use Rattle.std.proofs.Common.{◌∙◌, ap, sym, arith}
 use Rattle.wrp_network.specs.declared.configuration.NetCfg.{NetCfg}
 use Rattle.wrp_config.specs.declared.network.Network.{Network}
-use Rattle.wrp_course.specs.Premises.{transition_of}
+use Rattle.wrp_stamp.specs.Merge.{transition_of}
 use Rattle.wrp_plant.proofs.SignedReads.{read}
 use Rattle.wrp_sim.proofs.Cells.{raw_there, raw_untold, within_least}
 use Rattle.wrp_sim.proofs.sim.arriving.raw_to.Goals as goal
@@ -14,7 +14,7 @@ returns-then-is_within g c s w h =
     let cfg = ap (λ (net : Network). net.cfg) c.net.ensures ∙ h.plant.cfg in
     let at = read c.reading-at.result (omega (arith, c.reading-at.ensures.size)) ∙ c.reading-at.ensures.value s w h in
     raw_there s w c.args.to.link c.args.to.role c.node_at-node.result _ _ _ _ (c.node_at-node.ensures.value s w h) at (ap (λ (x : NetCfg). x.clock) cfg)
-    (c.transition_of-transition.ensures ∙ ap transition_of (c.first_entry.ensures.value s w h)) (sym c.is_within.ensures ∙ c.if-is_within.true) c.raw_at.ensures
+    (c.transition_of-transition.ensures.value ∙ ap transition_of (c.first_entry.ensures.value s w h)) (sym c.is_within.ensures ∙ c.if-is_within.true) c.raw_at.ensures
 
 pub returns-else-is_within : goal.returns-else-is_within
 returns-else-is_within g c s w h =
