@@ -93,8 +93,7 @@ impl PortPlace {
     fn tick(&mut self, locked: bool, certain: bool)
         ensures { Gives (port.Tick locked certain) self.old self.new }
     {
-        self.port
-            .tick_into(locked, certain, &mut self.lent.sends);
+        self.port.tick_into(locked, certain, &mut self.lent.sends);
         self.keep();
     }
 

@@ -108,7 +108,8 @@ impl<F: Fn(i64) -> i64> Node<F> {
     {
         let locked = self.control.locked();
         let certain = self.control.certain();
-        self.parts.give(To::Every, &PortIn::Tick { locked, certain });
+        self.parts
+            .give(To::Every, &PortIn::Tick { locked, certain });
     }
 
     // A sample.
