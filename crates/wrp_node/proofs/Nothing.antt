@@ -46,14 +46,14 @@ untold {F} {post} fixed before s call node e h =
     subst (λ (o : Option Call). IsIn post fixed before (tell fixed o s) node) (sym e)
     (record { parts = nothing_told fixed before s node.parts h.parts; control = h.control; report = h.report })
 
-pub lease_untold : {F : Type 0} {post : F → ℤ → ℤ → Type 0} (fixed : NodeSetting) (before : NodeAt) (s : Step) (fresh : Bool) (node : NodeOf F) → fresh ≡ is_fresh_in fixed.set s.node →
+pub lease_untold : {F : Type 0} {post : F → ℤ → ℤ → Type 0} (fixed : NodeSetting) (before : NodeAt) (s : Step) (fresh : Bool) {node : NodeOf F} → fresh ≡ is_fresh_in fixed.set s.node →
     HasNothing post node.control (lease_call fresh) → IsIn post fixed before s node → IsIn post fixed before (with_lease fixed s) node
-lease_untold {F} {post} fixed before s fresh node e none h =
+lease_untold {F} {post} fixed before s fresh {node} e none h =
     subst (λ (b : Bool). IsIn post fixed before (tell fixed (for_slave fixed (lease_call b s.node.calls)) s) node) e
     (untold fixed before s (for_slave fixed (lease_call fresh s.node.calls)) node (none fixed s.node.calls h.control) h)
 
-pub link_untold : {F : Type 0} {post : F → ℤ → ℤ → Type 0} (fixed : NodeSetting) (before : NodeAt) (s : Step) (on : Option Deltas) (node : NodeOf F) → on ≡ deltas_in fixed.set s.node →
+pub link_untold : {F : Type 0} {post : F → ℤ → ℤ → Type 0} (fixed : NodeSetting) (before : NodeAt) (s : Step) (on : Option Deltas) {node : NodeOf F} → on ≡ deltas_in fixed.set s.node →
     HasNothing post node.control (link_call on) → IsIn post fixed before s node → IsIn post fixed before (with_link fixed s) node
-link_untold {F} {post} fixed before s on node e none h =
+link_untold {F} {post} fixed before s on {node} e none h =
     subst (λ (o : Option Deltas). IsIn post fixed before (tell fixed (for_slave fixed (link_call o s.node.calls)) s) node) e
     (untold fixed before s (for_slave fixed (link_call on s.node.calls)) node (none fixed s.node.calls h.control) h)
