@@ -2,7 +2,7 @@
 ghost use Rattle.wrp_answers.specs.LoopAgain.{LoopIsAuditedAgain, TextWithRecords};
 
 use wrp_asked::looped_events_carry_parts;
-use wrp_config::reading_is_accepted;
+use wrp_network_text::reading_is_accepted;
 use wrp_loop::loop_is_audited;
 
 /// Where a run over a link is due to end with Done, the lines that it printed of its events, without `= `, behind

@@ -8,7 +8,7 @@ ghost use Rattle.wrp_answers.specs.Moments.{NextIsLeast};
 ghost use Rattle.wrp_answers.specs.NoOutput.{EmissionTellsNoOutput};
 ghost use Rattle.wrp_answers.specs.WorkedLink.{WorkedLink};
 
-use wrp_config::reading_is_accepted;
+use wrp_network_text::reading_is_accepted;
 use wrp_projection::replay_of_emitted_inputs;
 use wrp_sim::simulator_keeps_the_bounds;
 

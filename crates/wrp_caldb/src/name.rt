@@ -1,7 +1,10 @@
 //! Names of nodes, links, modules and fibres.
-ghost use Rattle.std.specs.Prelude.{◌≡◌, ◌&&◌, length, nat_le};
+ghost use Rattle.std.specs.Prelude.{◌≡◌, ◌&&◌, Some, length, nat_le};
 ghost use Rattle.std.specs.List.{list_all};
+ghost use Rattle.wrp_caldb.specs.Database.{name_or_none};
 ghost use Rattle.wrp_caldb.specs.Name.{is_name_octet, is_name, is_module_name, is_hex_digit, is_identity};
+
+use wrp_network::Name;
 
 // A letter, a digit or `_`.
 fn is_name_octet(octet: u8) -> bool
@@ -32,6 +35,17 @@ pub fn is_name(text: &str) -> bool
         [first, rest @ ..] => first.is_ascii_lowercase() && ends_name(rest),
         [] => false,
     }
+}
+
+/// A text as a name; none where it is none.
+pub fn name_of(text: &str) -> Name
+    ensures { result.bytes ≡ name_or_none (Some text.now) }
+{
+    let mut name = Name::new();
+    if is_name(text) {
+        name.push_str(text);
+    }
+    name
 }
 
 /// Whether a module may have this name: any but `unlisted`, which stands for a module of no entry.
