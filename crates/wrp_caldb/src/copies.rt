@@ -1,5 +1,5 @@
 //! Copies of a calibration database. Nothing is read again.
-ghost use Rattle.std.specs.Prelude.{◌≡◌, IfOk, option_map};
+ghost use Rattle.std.specs.Prelude.{◌≡◌, IfOk};
 
 use crate::database::{CalDb, ListedFibre, ListedModule, Lists, Points, StoredTable};
 use std::alloc::{AllocError, Global};

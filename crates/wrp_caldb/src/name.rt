@@ -19,7 +19,7 @@ fn are_name_octets(octets: &[u8]) -> bool
     octets.iter().all(|octet| is_name_octet(*octet))
 }
 
-// Whether these octets may stand behind a name's first letter.
+// Whether these octets may follow a name's first letter.
 fn ends_name(rest: &[u8]) -> bool
     ensures { result ≡ (list_all is_name_octet rest.now && nat_le (length rest.now) 15) }
 {
@@ -37,7 +37,7 @@ pub fn is_name(text: &str) -> bool
     }
 }
 
-/// A text as a name; none where it is none.
+/// A text as a name; an empty name where it is none.
 pub fn name_of(text: &str) -> Name
     ensures { result.bytes ≡ name_or_none (Some text.now) }
 {
@@ -48,7 +48,7 @@ pub fn name_of(text: &str) -> Name
     name
 }
 
-/// Whether a module may have this name: any but `unlisted`, which stands for a module of no entry.
+/// Whether a module may have this name: any but `unlisted`, which means a module without an entry.
 pub fn is_module_name(text: &str) -> bool
     ensures { result ≡ is_module_name text.now }
 {

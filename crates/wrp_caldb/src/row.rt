@@ -1,4 +1,4 @@
-//! What a key of a table of a TOML text may say: the sort of its value, what stands for it where it is
+//! What a key of a table of a TOML text may say: the sort of its value, what is taken for it where it is
 //! missing, and the codes of what is wrong with it.
 ghost use Rattle.std.specs.Prelude.{◌≡◌};
 ghost use Rattle.wrp_caldb.specs.Refusal.{number_of};
@@ -56,7 +56,7 @@ pub enum Sort {
     },
 }
 
-/// What stands for a key that is missing.
+/// What is taken for a key that is missing.
 #[derive(Clone, Copy, Debug, PartialEq, Eq)]
 pub enum Need {
     /// Nothing: the key has to be there.

@@ -64,7 +64,7 @@ fn place_in_module_keys(version: Version, code: Code, at: At, module: &Table) ->
     }
 }
 
-// The first place of a code in a module, with `count` modules before it. `repeats` tells whether
+// The first place of a code in a module, with `count` modules before it. `repeats` says whether
 // one of them has the same name.
 fn place_in_module(
     version: Version,
@@ -123,7 +123,7 @@ fn place_in_fibre_keys(code: Code, at: At, fibre: &Table) -> Option<Place>
     }
 }
 
-// The first place of a code in a fibre, with `count` fibres before it. `repeats` tells whether one
+// The first place of a code in a fibre, with `count` fibres before it. `repeats` says whether one
 // of them has the same name.
 fn place_in_fibre(code: Code, count: usize, fibre: &Table, repeats: bool) -> Option<Place>
     requires { count + 1 < 2 ^ 64 }
@@ -154,8 +154,9 @@ fn place_in_fibres(alloc: Global, code: Code, fibres: &[Value]) -> Result<Option
     Ok(None)
 }
 
-/// The first place of a code behind the top: the key `module`, the modules, the key `fibre`, the
-/// fibres. Memory is taken for the code `Twice` alone.
+/// The first place of a code after the top: the key `module`, the modules, the key `fibre`, the
+/// fibres. Memory is taken for the code `Twice` alone, and an error comes where there is none for it.
+/// The table stays as it is.
 pub fn place_in_lists(alloc: Global, code: Code, doc: &Table) -> Result<Option<Place>, AllocError>
     ensures { IfOk result (λ place. place ≡ place_in_lists code (table_view doc.now)) }
 {
@@ -219,7 +220,8 @@ fn least_of(alloc: Global, others: Others, doc: &Table) -> Result<Option<(Code, 
 }
 
 /// Why a calibration text is refused: the least code that has a place, at its first place. Memory
-/// is taken where no code below `Twice` has a place.
+/// is taken where no code below `Twice` has a place, and an error comes where there is none for it. The
+/// table stays as it is.
 pub fn refusal(
     alloc: Global,
     others: Others,

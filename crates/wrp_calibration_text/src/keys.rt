@@ -143,7 +143,7 @@ pub fn rx_nm_row(first: Option<i64>) -> Row
     Row::required("rx_nm", Sort::SecondWavelength { first })
 }
 
-/// The first wavelength that stands in a pair.
+/// The first wavelength of a pair.
 pub fn first_wavelength(pair: &Table) -> Option<i64>
     ensures { result ≡ first_wavelength (table_view pair.now) }
 {

@@ -1,4 +1,4 @@
-//! Laws of databases, for the layers that stand on them. Each function computes nothing.
+//! Laws of databases, for the crates that use them. Each function computes nothing.
 ghost use Rattle.wrp_calibration_text.specs.Text.{OneText, EachHasText};
 
 /// A database has one text: two lists of octets that are what `toml` writes for it are the same.

@@ -46,7 +46,8 @@ fn repeats_name<'a>(names: &mut BTreeSet<&'a str>, value: &'a Value) -> Result<b
 }
 
 /// Whether a value is a table with the name of one before it, where the code is `Twice`; its name is
-/// noted. Nothing is asked or noted for another code.
+/// noted. Nothing is asked or noted for another code. An error comes where there is no memory to note
+/// the name; the names that were noted before stay.
 pub fn is_repeat<'a>(
     code: Code,
     names: &mut BTreeSet<&'a str>,

@@ -45,7 +45,8 @@ impl Place {
     }
 
     /// The place as a refusal's line writes it: `module.2` for a table, `module.2.tx` for a key,
-    /// `module.2.pair.1.tx_nm` for a key of a pair, and the name alone for a key of the top.
+    /// `module.2.pair.1.tx_nm` for a key of a pair, and the name alone for a key of the top. An error
+    /// comes where there is no memory for the digits of a number; the place stays as it is.
     pub fn text(&self, alloc: Global) -> Result<ArrayString<96>, AllocError>
         ensures { IfOk result (λ text. text.bytes ≡ place_text self.now) }
     {
@@ -84,7 +85,7 @@ fn push_number(alloc: Global, text: &mut ArrayString<96>, number: usize) -> Resu
     Ok(())
 }
 
-// A table of an array, by the array's key with a point behind it, and its number.
+// A table of an array, by the array's key with a point after it, and its number.
 fn numbered(alloc: Global, kind: &str, number: usize) -> Result<ArrayString<96>, AllocError>
     requires { length kind.now ≤ 16 }
     ensures value { IfOk result (λ text. text.bytes ≡ kind.now ++ decimal number) }

@@ -3,7 +3,7 @@ ghost use Rattle.std.specs.Prelude.{◌≡◌, ◌≤◌, ℕ, IfOk, Some, None,
 ghost use Rattle.std.specs.Str.{IsUtf8};
 ghost use Rattle.toml.specs.View.{view, table_view};
 ghost use Rattle.wrp_caldb.specs.Calibration.{IsAccepted, transition_key, tx_nm_key, rx_nm_key};
-ghost use Rattle.wrp_caldb.specs.Database.{number_at, natural_at, name_at, name_or_none, delays_of, entry_of, each_table, entries_of, module_of, table_of, fibre_of, database_of};
+ghost use Rattle.wrp_caldb.specs.Database.{number_at, natural_at, name_at, delays_of, entry_of, each_table, entries_of, module_of, table_of, fibre_of, database_of};
 ghost use Rattle.wrp_calibration_text.specs.Reading.{IsFaultAt, IsSyntax, IsAnswerOf, IsReadingOf};
 ghost use Rattle.wrp_caldb.specs.declared.keys.Others.TheVariants.{Refused, Ignored};
 ghost use Rattle.wrp_caldb.specs.declared.keys.Version.TheVariants.{One};
@@ -28,7 +28,7 @@ use wrp_caldb::{
 };
 use wrp_network::Name;
 
-/// The number at a row's key, or its default; 0 where no number of its sort stands there.
+/// The number at a row's key, or its default; 0 where no number of its sort is there.
 pub fn number(table: &Table, row: &Row) -> i64
     ensures { result ≡ number_at row.now (table_view table.now) }
 {
@@ -62,7 +62,7 @@ fn second_nm(pair: &Table) -> u16
     natural(pair, &rx_nm_row(None)) as u16
 }
 
-/// The name at `name`; none where no name stands there.
+/// The name at `name`; an empty name where there is none.
 pub fn name_at(table: &Table) -> Name
     ensures { result.bytes ≡ name_at (table_view table.now) }
 {

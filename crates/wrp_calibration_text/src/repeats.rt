@@ -1,4 +1,4 @@
-//! What stands twice: a name among tables of a kind, and the wavelengths of a pair in its module.
+//! What is there twice: a name among tables of a kind, and the wavelengths of a pair in its module.
 ghost use Rattle.std.specs.Prelude.{◌≡◌, ◌≤◌, List, Some, None, map, option_copied, length, take};
 ghost use Rattle.std.specs.List.{list_any};
 ghost use Rattle.toml.specs.Data.{Data, Members};
@@ -56,8 +56,8 @@ fn has_name_before(values: &[Value], count: usize, table: &Table) -> bool
     any_has_name_of(table, &values[..count])
 }
 
-/// The key `name`, where the code is `Twice` and the table was told to have the name of an earlier
-/// one.
+/// The key `name`, where the code is `Twice` and `repeats` says that the table has the name of an
+/// earlier one.
 pub fn place_of_repeat(code: Code, at: At, repeats: bool) -> Option<Place>
     ensures { (earlier : List Data) (table : Members) → IsTold code earlier table repeats
         → result ≡ place_of_name code at earlier table }

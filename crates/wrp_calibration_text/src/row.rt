@@ -58,7 +58,7 @@ impl Row {
         Row::required(key, Sort::Number { least, greatest })
     }
 
-    /// A key of a whole number from `least` to `greatest`, and what stands for it where it is
+    /// A key of a whole number from `least` to `greatest`, and what is taken for it where it is
     /// missing.
     pub fn with_default(key: &'static str, least: i64, greatest: i64, default: i64) -> Row
         requires { length key.now ≤ 16 }
@@ -71,7 +71,7 @@ impl Row {
         }
     }
 
-    /// A key with what stands for it where it is missing.
+    /// A key with what is taken for it where it is missing.
     pub fn defaulted(key: &'static str, sort: Sort, default: i64) -> Row
         requires { length key.now ≤ 16 }
         ensures { result ≡ defaulted_key key.now sort default }
@@ -91,7 +91,7 @@ impl Row {
         self.key
     }
 
-    /// What stands for the key where it is missing.
+    /// What is taken for the key where it is missing.
     pub fn need(&self) -> Need
         ensures { result ≡ self.now.need }
     {

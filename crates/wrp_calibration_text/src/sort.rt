@@ -1,4 +1,4 @@
-//! The sorts of values, and the number that stands for a row's key.
+//! The sorts of values, and the number of a row's key.
 ghost use Rattle.std.specs.Prelude.{◌≡◌, ℕ, ℤ, List, Bool, Some, None, map, option_map};
 ghost use Rattle.toml.specs.Data.{get_member};
 ghost use Rattle.toml.specs.View.{view, table_view};
@@ -109,7 +109,7 @@ fn fitting_number(sort: Sort, value: &Value) -> Option<i64>
     }
 }
 
-// What stands for a key that is missing.
+// What is taken for a key that is missing.
 fn default_of(need: Need) -> Option<i64>
     ensures { result ≡ default_of need }
 {
@@ -119,7 +119,7 @@ fn default_of(need: Need) -> Option<i64>
     }
 }
 
-/// The number that stands for a row's key: a value of its sort, or its default where it is missing.
+/// The number of a row's key: a value of its sort, or its default where it is missing.
 pub fn number_at(table: &Table, row: &Row) -> Option<i64>
     ensures { result ≡ number_in row.now (get_member row.now.name (table_view table.now)) }
 {

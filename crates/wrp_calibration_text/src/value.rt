@@ -1,4 +1,4 @@
-//! The values of a table: what stands at a key, and the tables of an array of tables.
+//! The values of a table: what is at a key, and the tables of an array of tables.
 ghost use Rattle.std.specs.Prelude.{◌≡◌, ℕ, ℤ, List, Bool, Some, None, map, option_map};
 ghost use Rattle.std.specs.Option.{is_some};
 ghost use Rattle.std.specs.List.{list_all};
@@ -48,7 +48,7 @@ fn each_is_table(values: &[Value]) -> bool
     values.iter().all(|value| is_table(value))
 }
 
-/// The tables of the array of tables at a key; none where another value stands there, or none.
+/// The tables of the array of tables at a key; none where there is another value, or none.
 pub fn tables_at<'a>(table: &'a Table, key: &str) -> &'a [Value]
     ensures { map view result.now ≡ tables_at key.now (table_view table.now) }
 {

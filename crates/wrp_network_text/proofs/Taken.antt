@@ -2,7 +2,7 @@
 use Rattle.std.proofs.Common.{◌≡◌, ◌+◌, ℕ, zero, suc, List, [], ◌∷◌, Bool, true, false, Option, None, Some, map, cond, refl, sym, ap, subst, ◌∙◌, arith}
 use Rattle.std.specs.Prelude.{codes, option_and_then, option_map, slice_get}
 use Rattle.std.specs.Option.{option_or}
-use Rattle.std.specs.List.{AllByRecursion}
+use Rattle.std.specs.List.{AllByRecursion, find}
 use Rattle.toml.specs.Data.{Members, table, get_member}
 use Rattle.wrp_caldb.specs.Calibration.{version_key, place_in_lists, IsAccepted}
 use Rattle.wrp_caldb.specs.Database.{each_table}

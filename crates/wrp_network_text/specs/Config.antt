@@ -1,7 +1,6 @@
 -- The network that a text describes, which is asked of texts whose tables are taken (this project's profile).
-use Rattle.std.specs.Prelude.{◌≡◌, ◌+◌, ◌-◌, ◌*◌, ℕ, pos, List, [], Bool, true, Option, Some, None, codes, map, fold, nat_le, option_and_then, unwrap_or, if◌then◌else◌}
+use Rattle.std.specs.Prelude.{◌≡◌, ◌+◌, ◌-◌, ◌*◌, ℕ, pos, List, Bool, true, Option, Some, None, codes, map, fold, nat_le, option_and_then, unwrap_or, if◌then◌else◌}
 use Rattle.toml.specs.Data.{Data, Members, as_bool, get_member}
-use Rattle.arrayvec.specs.ArrayString.{ArrayString}
 use Rattle.wrp_network.specs.declared.configuration.NetCfg.{NetCfg}
 use Rattle.wrp_network.specs.declared.network.NodeCfg.{NodeCfg}
 use Rattle.wrp_network.specs.declared.network.LinkCfg.{LinkCfg}
@@ -11,6 +10,7 @@ use Rattle.wrp_caldb.specs.Database.{Database, each_table, fibre_at, table_at, n
 use Rattle.wrp_caldb.specs.Name.{is_identity}
 use Rattle.wrp_caldb.specs.Rows.{tables_at}
 use Rattle.wrp_config.specs.Accepted.{greatest, error_at_ends, law_error, all_delays}
+use Rattle.wrp_config.specs.Same.{bare, bare_node, bare_link}
 use Rattle.wrp_network_text.specs.Ends.{end_in, text_at}
 use Rattle.wrp_network_text.specs.Keys.{key_of, network_in, clock_in, e_tx_key, e_tag_key, beat_key, slew_key, held_key}
 use Rattle.wrp_network_text.specs.Links.{down_in, up_in}

@@ -1,9 +1,9 @@
 //! Where a network file is refused for what one of its tables says: the first place of each code, in
 //! the order of the places.
 //!
-//! Texts that stand twice are searched for among the tables before each one. The lists are short
+//! Texts that are there twice are searched for among the tables before each one. The lists are short
 //! then: `Twice` is looked for where nothing is out of range, and so among at most 64 nodes and 63
-//! links. The modules and the fibres, of which there may be thousands, are judged by `wrp_caldb`.
+//! links. The modules and the fibres, of which there may be thousands, are judged by `wrp_calibration_text`.
 ghost use Rattle.std.specs.Prelude.{◌≡◌, ◌↔◌, ◌≤◌, ◌<◌, Some, None, IfOk, map, length, take, option_copied};
 ghost use Rattle.std.specs.List.{list_any};
 ghost use Rattle.toml.specs.View.{view, table_view};

@@ -59,7 +59,7 @@ pub fn top_rows() -> [Row; 6]
     ]
 }
 
-/// The rows of the text that stand before its first table.
+/// The rows of the text before its first table.
 pub fn head_rows() -> [Row; 2]
     ensures { result ≡ version_key ∷ network_key ∷ [] }
 {

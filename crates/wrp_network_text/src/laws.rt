@@ -2,7 +2,7 @@
 ghost use Rattle.wrp_network_text.specs.SameAnswer.{EachIsRead, OneReading, ReadingIsAccepted};
 
 /// One text has one answer: two that are not want of memory are both the same network, but for what
-/// stands in the unused room of its names, or both a fault of one code at one place.
+/// is in the unused room of its names, or both a fault of one code at one place.
 pub fn one_reading()
     ensures { OneReading }
 {}

@@ -25,7 +25,7 @@ pub enum Names {
     UpperModule,
     /// A module that is listed for the wavelengths of the lower end.
     LowerModule,
-    /// Nothing; its default 0 stands for any wavelength up, which fits any wavelength down alone.
+    /// Nothing; its default 0 means any wavelength up, which fits any wavelength down alone.
     Up,
 }
 
@@ -75,7 +75,7 @@ fn wr_row() -> Row
     Row::optional("wr", Sort::Flag)
 }
 
-// The number that stands for the wavelength of the way down.
+// The number for the wavelength of the way down.
 fn first_in(link: &Table) -> Option<i64>
     ensures { result ≡ first_in (table_view link.now) }
 {
@@ -85,14 +85,14 @@ fn first_in(link: &Table) -> Option<i64>
     }
 }
 
-/// The wavelength of the way down, in nm; 0 where none stands there.
+/// The wavelength of the way down, in nm; 0 where there is none.
 pub fn down_in(link: &Table) -> u16
     ensures { result ≡ down_in (table_view link.now) }
 {
     natural(link, &down_row()) as u16
 }
 
-/// The wavelength of the way up, in nm; 0 where none stands there.
+/// The wavelength of the way up, in nm; 0 where there is none.
 pub fn up_in(link: &Table) -> u16
     ensures { result ≡ up_in (table_view link.now) }
 {

@@ -15,7 +15,7 @@ use wrp_network::{LinkCfg, Name};
 use wrp_caldb::{ListedModule, Lists, name_of};
 use wrp_calibration_text::{name_at, value_at};
 
-// The name at a key; none where no name stands there.
+// The name at a key; an empty name where there is none.
 fn name_of(key: &str, table: &Table) -> Name
     ensures { result.bytes ≡ name_of key.now (table_view table.now) }
 {
@@ -25,7 +25,7 @@ fn name_of(key: &str, table: &Table) -> Name
     }
 }
 
-// The node and the port at a key; 0 and 0 where no end stands there.
+// The node and the port at a key; 0 and 0 where there is none.
 fn end_at(nodes: &[Value], key: &str, link: &Table) -> (u8, u16)
     requires { length nodes.now ≤ 64 }
     ensures { result ≡ end_at (map view nodes.now) key.now (table_view link.now) }

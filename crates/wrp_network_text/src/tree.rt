@@ -25,14 +25,14 @@ impl TreeFault {
     }
 }
 
-// Whether no link stands above a node.
+// Whether no link is above a node.
 fn is_root(cfg: &NetCfg, n: u8) -> bool
     ensures { result ≡ is_root cfg.now n }
 {
     link_above(cfg, n).is_none()
 }
 
-// Whether no link stands above one of the nodes before this one.
+// Whether no link is above one of the nodes before this one.
 fn has_root_below(cfg: &NetCfg, n: u8) -> bool
     ensures { result ≡ some_below (is_root cfg.now) n }
 {

@@ -6,7 +6,6 @@ use Rattle.toml.specs.Parse.{parse_document}
 use Rattle.toml.specs.Text.{IsDocumentText}
 use Rattle.wrp_calibration_text.specs.Reading.{IsTextOf}
 use Rattle.wrp_calibration_text.specs.Text.{document_of, IsTextDue}
-use Rattle.wrp_caldb.specs.Database.{IsListed}
 use Rattle.wrp_calibration_text.proofs.Depth.{document_depth}
 use Rattle.wrp_calibration_text.proofs.Migration.{same_again}
 use Rattle.wrp_calibration_text.proofs.OneText.{one_text}
