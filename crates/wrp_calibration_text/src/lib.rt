@@ -29,3 +29,4 @@ pub use row::Row;
 pub use sort::{fits, number_at};
 pub use text::WriteCalibration;
 pub use value::{array_of, tables_at, value_at};
+pub use wrp_base::ConfFault;

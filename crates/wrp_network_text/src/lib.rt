@@ -17,3 +17,4 @@ mod tree;
 
 pub use laws::{each_is_read, one_reading, reading_is_accepted};
 pub use reading::ReadNetwork;
+pub use wrp_base::ConfFault;
