@@ -3,11 +3,12 @@ use Rattle.std.proofs.Common.{◌≡◌, ◌∙◌, inl, inr, refl, ℕ, ◌≤�
 use Rattle.std.proofs.lemmas.Bool.{cases_lt}
 use Rattle.wrp_base.specs.declared.fault.ConfFault.{ConfFault}
 use Rattle.wrp_base.specs.declared.fault.ConfFault.TheVariants.{Fault, Memory}
-use Rattle.wrp_config.proofs.EachRead.{each_is_read}
+use Rattle.wrp_network_text.proofs.EachRead.{each_is_read}
 use Rattle.wrp_config.specs.declared.network.Network.{Network}
 use Rattle.wrp_config.specs.Names.{node_named}
-use Rattle.wrp_config.specs.Reading.{IsReadingOf}
-use Rattle.wrp_config.specs.Same.{IsSettled, ReadingIsAccepted, bare_cfg}
+use Rattle.wrp_network_text.specs.Reading.{IsReadingOf}
+use Rattle.wrp_config.specs.Same.{bare_cfg}
+use Rattle.wrp_network_text.specs.SameAnswer.{IsSettled, ReadingIsAccepted}
 use Rattle.wrp_records.specs.declared.status.Status.{Status}
 use Rattle.wrp_records.specs.declared.status.Status.TheVariants.{Done, Usage, BadNetwork, BadTrace, Broken, ReadFault, WriteFault, LinkFault, TooLarge, OutOfMemory, BadCapture, BadCalib}
 use Rattle.wrp_records.specs.Lines.{lines_of}

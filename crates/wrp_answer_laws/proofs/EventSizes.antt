@@ -20,10 +20,11 @@ use Rattle.wrp_base.proofs.Lists.{has_item, length_map}
 use Rattle.wrp_caldb.specs.Database.{database_of, each_table}
 use Rattle.wrp_caldb.specs.Name.{is_letter, is_name, is_name_octet}
 use Rattle.wrp_caldb.specs.Rows.{tables_at}
-use Rattle.wrp_config.proofs.Few.{few_links, few_nodes}
+use Rattle.wrp_network_text.proofs.Few.{few_links, few_nodes}
 use Rattle.wrp_config.specs.Accepted.{HasNames}
-use Rattle.wrp_config.specs.Config.{bare_link, bare_node, link_of, links_of, node_of, nodes_of}
-use Rattle.wrp_config.specs.Keys.{clock_in}
+use Rattle.wrp_network_text.specs.Config.{link_of, links_of, node_of, nodes_of}
+use Rattle.wrp_config.specs.Same.{bare_link, bare_node}
+use Rattle.wrp_network_text.specs.Keys.{clock_in}
 use Rattle.wrp_course.specs.declared.event.Event.{Event}
 use Rattle.wrp_course.specs.declared.event.Event.TheVariants.{Pass, Tick, Sample, Depart, Arrive, Deliver, Noise, Down, Up, Cut, Join}
 use Rattle.wrp_course.specs.declared.event.Swap.{Swap}

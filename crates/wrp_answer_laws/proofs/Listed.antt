@@ -2,7 +2,7 @@
 use Rattle.std.proofs.Common.{◌≡◌, ◌∙◌, inl, inr, refl, sym, ap, ℕ, ◌<◌, ◌≤◌, Some, Ok, List, [], append-nil, length, map}
 use Rattle.std.specs.List.{AllByRecursion}
 use Rattle.wrp_network.specs.declared.configuration.NetCfg.{NetCfg}
-use Rattle.wrp_config.proofs.OneReading.{one_reading}
+use Rattle.wrp_network_text.proofs.OneReading.{one_reading}
 use Rattle.wrp_config.specs.Names.{node_named}
 use Rattle.wrp_course.specs.Run.{Happened}
 use Rattle.wrp_course.specs.Setting.{Setting}

@@ -2,7 +2,7 @@
 use Rattle.std.proofs.Common.{◌≡◌, ◌∙◌, inl, inr, refl, ap, ap₂, sym, subst, ℕ, ◌<◌, ◌≤◌, ◌^◌, List, ◌++◌, length, map}
 use Rattle.std.specs.List.{AllByRecursion, concat}
 use Rattle.wrp_config.specs.Accepted.{HasNames}
-use Rattle.wrp_config.specs.Same.{ReadingIsAccepted}
+use Rattle.wrp_network_text.specs.SameAnswer.{ReadingIsAccepted}
 use Rattle.wrp_course.specs.Run.{Happened, IsAnswered, world_after}
 use Rattle.wrp_course.specs.Setting.{Setting}
 use Rattle.wrp_course.specs.WorldAt.{WorldAt}

@@ -2,7 +2,7 @@
 use Rattle.std.proofs.Common.{◌≡◌, subst, append-nil, ℕ, ◌==◌, not, false, List, [], ◌∷◌, ◌++◌}
 use Rattle.std.specs.List.{AllByRecursion, list_all}
 use Rattle.std.proofs.lemmas.Bool.{and_parts, not-true, true≢false}
-use Rattle.wrp_config.specs.Same.{ReadingIsAccepted}
+use Rattle.wrp_network_text.specs.SameAnswer.{ReadingIsAccepted}
 use Rattle.wrp_records.specs.Lines.{lines_of}
 use Rattle.wrp_records.specs.Words.{line_of, IsWord, is_word_octet}
 use Rattle.wrp_audit.specs.AuditText.{given_lines}

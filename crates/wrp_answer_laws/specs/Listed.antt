@@ -2,7 +2,7 @@
 use Rattle.std.specs.Prelude.{◌≡◌, ◌<◌, ◌^◌, ℕ, Some, Ok, List, [], length}
 use Rattle.wrp_config.specs.declared.network.Network.{Network}
 use Rattle.wrp_config.specs.Names.{node_named}
-use Rattle.wrp_config.specs.Reading.{IsReadingOf}
+use Rattle.wrp_network_text.specs.Reading.{IsReadingOf}
 use Rattle.wrp_projection_laws.specs.Law.{HasRecords}
 use Rattle.wrp_projection_laws.specs.Projection.{IsProjectionTo}
 use Rattle.wrp_records.specs.declared.status.Status.TheVariants.{Done}

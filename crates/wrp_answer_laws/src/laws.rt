@@ -8,7 +8,7 @@ ghost use Rattle.wrp_answer_laws.specs.Moments.{NextIsLeast};
 ghost use Rattle.wrp_answer_laws.specs.NoOutput.{EmissionTellsNoOutput};
 ghost use Rattle.wrp_answer_laws.specs.WorkedLink.{WorkedLink};
 
-use wrp_config::reading_is_accepted;
+use wrp_network_text::reading_is_accepted;
 use wrp_projection_laws::replay_of_emitted_inputs;
 use wrp_sim::simulator_keeps_the_bounds;
 

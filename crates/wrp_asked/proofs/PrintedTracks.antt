@@ -4,7 +4,7 @@ use Rattle.std.proofs.Common.{◌≡◌, ◌⊎◌, inl, inr, refl, sym, ap, ◌
 use Rattle.std.specs.List.{AllByRecursion}
 use Rattle.wrp_base.proofs.Lists.{all_weaker}
 use Rattle.wrp_config.specs.Accepted.{HasNames}
-use Rattle.wrp_config.specs.Same.{ReadingIsAccepted}
+use Rattle.wrp_network_text.specs.SameAnswer.{ReadingIsAccepted}
 use Rattle.wrp_course.specs.declared.event.Event.{Event}
 use Rattle.wrp_course.specs.EventAt.{IsEventOf}
 use Rattle.wrp_course.specs.Given.{NodeStepAt}

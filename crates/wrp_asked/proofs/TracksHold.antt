@@ -1,7 +1,7 @@
 -- What is told of TRACK is true in every audit and in every simulation, by the law of every run.
 use Rattle.std.proofs.Common.{◌<◌, ◌^◌, ℕ, Bool, List, [], ◌∷◌, length, arith}
 use Rattle.std.specs.List.{AllByRecursion}
-use Rattle.wrp_config.specs.Same.{ReadingIsAccepted}
+use Rattle.wrp_network_text.specs.SameAnswer.{ReadingIsAccepted}
 use Rattle.wrp_node.specs.declared.interface.Output.{Output}
 use Rattle.wrp_sim.specs.Keeps.{SimRunsAreRuns}
 use Rattle.wrp_trace.specs.Events.{EventsCanCome}

@@ -10,7 +10,8 @@ use Rattle.wrp_caldb.specs.Name.{same_name}
 use Rattle.wrp_config.proofs.Lists.{found_place}
 use Rattle.wrp_config.specs.declared.network.Network.{Network}
 use Rattle.wrp_config.specs.Names.{node_named}
-use Rattle.wrp_config.specs.Same.{ReadingIsAccepted, bare_cfg}
+use Rattle.wrp_config.specs.Same.{bare_cfg}
+use Rattle.wrp_network_text.specs.SameAnswer.{ReadingIsAccepted}
 use Rattle.wrp_node.specs.declared.interface.Input.{Input}
 use Rattle.wrp_node.specs.NodeAt.{NodeAt, Taken, servo_setting_of}
 use Rattle.wrp_node.specs.NodeRun.{AllSaid, node_after}

@@ -14,8 +14,7 @@ use Rattle.wrp_network.specs.Network.{name_at, node_count}
 use Rattle.wrp_base.proofs.Lists.{all_append}
 use Rattle.wrp_bounds.specs.Bounds.{path_of}
 use Rattle.wrp_caldb.specs.Name.{is_name, same_name}
-use Rattle.wrp_config.proofs.Lists.{found_place}
-use Rattle.wrp_config.proofs.Texts.{same_is, same_refl}
+use Rattle.wrp_config.proofs.Lists.{found_place, same_is, same_refl}
 use Rattle.wrp_config.specs.Accepted.{HasNames}
 use Rattle.wrp_config.specs.Names.{node_named}
 use Rattle.wrp_data.specs.Counters.{count_at}

@@ -3,7 +3,7 @@
 ghost use Rattle.wrp_projection_laws.specs.Law.{FrontWithRecords, ReplayOfEmittedInputs};
 
 use wrp_audit::one_audit;
-use wrp_config::reading_is_accepted;
+use wrp_network_text::reading_is_accepted;
 use wrp_recorded_laws::inputs_are_recorded;
 
 /// Where an audit of an input is due to end with Done, and so is `audit --emit NODE` with fewer than
