@@ -40,10 +40,7 @@ fn fibre_copied(listed: &ListedFibre) -> ListedFibre
 }
 
 // The same modules, in their order.
-fn modules_copied(
-    alloc: Global,
-    listed: &[ListedModule],
-) -> Result<Vec<ListedModule>, AllocError>
+fn modules_copied(alloc: Global, listed: &[ListedModule]) -> Result<Vec<ListedModule>, AllocError>
     ensures { IfOk result (λ copies. copies.items ≡ listed.now) }
 {
     let mut copies = Vec::new(alloc);

@@ -120,6 +120,12 @@ impl Network {
         ensures { IfOk result (λ copy. copy.value ≡ self.now) }
     {
         let db = self.db.copied(alloc)?;
-        Ok(Box::new(alloc, Network { cfg: cfg_copied(&self.cfg), db })?)
+        Ok(Box::new(
+            alloc,
+            Network {
+                cfg: cfg_copied(&self.cfg),
+                db,
+            },
+        )?)
     }
 }

@@ -19,9 +19,9 @@ use crate::settings::NetworkKey;
 use arrayvec::ArrayVec;
 use toml::{Table, Value};
 use wrp_base::Clock;
-use wrp_network::{NetCfg, NodeCfg};
 use wrp_caldb::{Lists, is_identity};
 use wrp_calibration_text::{name_at, natural, number, tables_at};
+use wrp_network::{NetCfg, NodeCfg};
 
 fn hex_value(octet: u8) -> u64
     requires { is_hex_digit octet ≡ true }

@@ -22,7 +22,9 @@ use std::alloc::{AllocError, Global};
 use toml::{Table, Value};
 use wrp_base::Clock;
 use wrp_caldb::{At, Code, Lists};
-use wrp_calibration_text::{Place, place_in_lists, place_in_table, place_of_keys, place_of_name, place_of_others, tables_at};
+use wrp_calibration_text::{
+    Place, place_in_lists, place_in_table, place_of_keys, place_of_name, place_of_others, tables_at,
+};
 
 // Whether a value is a table with the same text at a key.
 fn has_text_of(key: &str, table: &Table, value: &Value) -> bool

@@ -11,9 +11,9 @@ use crate::link_rows::{down_in, up_in};
 use arrayvec::ArrayVec;
 use toml::{Table, Value};
 use wrp_base::{Fibre, Module};
-use wrp_network::{LinkCfg, Name};
 use wrp_caldb::{ListedModule, Lists, name_of};
 use wrp_calibration_text::{name_at, value_at};
+use wrp_network::{LinkCfg, Name};
 
 // The name at a key; an empty name where there is none.
 fn name_of(key: &str, table: &Table) -> Name

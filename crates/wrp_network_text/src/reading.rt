@@ -19,11 +19,11 @@ use crate::tree;
 use std::alloc::{AllocError, Global};
 use toml::Table;
 use wrp_base::ConfFault;
-use wrp_network::NetCfg;
 use wrp_bounds::check;
 use wrp_caldb::{CalDb, Lists};
 use wrp_calibration_text::{fault_at, lists_of, syntax};
 use wrp_config::Network;
+use wrp_network::NetCfg;
 
 // The answer for a network whose links make a tree.
 fn answer_for_tree(

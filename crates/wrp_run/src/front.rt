@@ -14,8 +14,8 @@ use std::alloc::{AllocError, Global};
 use wrp_asked::{HowItEnded, NetworkText, take_network};
 use wrp_base::ConfFault;
 use wrp_config::Network;
-use wrp_network_text::ReadNetwork;
 use wrp_io::{Sink, Source};
+use wrp_network_text::ReadNetwork;
 use wrp_records::{Reader, Status, TOO_LARGE_LINE, answer, refuse_network};
 
 /// The network that stands in front of the records, and its text.

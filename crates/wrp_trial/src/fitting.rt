@@ -6,8 +6,8 @@ ghost use Rattle.wrp_caldb.specs.Name.{is_name};
 ghost use Rattle.wrp_course.specs.EventAt.{AreSwaps, IsChange, IsEventOf, IsMove, IsRaw, IsSwap, IsTime};
 
 use wrp_base::{Raw, Tau};
-use wrp_network::{Name, NetCfg};
 use wrp_caldb::is_name;
+use wrp_network::{Name, NetCfg};
 use wrp_world::{Event, Swap};
 
 // The drifts of two or three nodes.

@@ -3,8 +3,8 @@ ghost use Rattle.std.specs.Prelude.{◌<◌, length};
 
 use crate::telling::{push_none, push_points};
 use std::alloc::AllocError;
-use wrp_network::LinkCfg;
 use wrp_config::Network;
+use wrp_network::LinkCfg;
 
 // A number of a link.
 fn given_number_of(link: &LinkCfg, key: &str) -> Option<i128> {

@@ -7,9 +7,9 @@ ghost use Rattle.wrp_bounds.specs.Hop.{IsInRange};
 ghost use Rattle.std.specs.Prelude.{◌<◌, length};
 
 use std::alloc::AllocError;
-use wrp_network::{NetCfg, NodeCfg};
 use wrp_bounds::{HopNumbers, held_motion, holdover, hop, link_above, numbers_over, path};
 use wrp_config::Network;
+use wrp_network::{NetCfg, NodeCfg};
 
 // A number that the file gives.
 fn given_number_of(node: &NodeCfg, key: &str) -> Option<i128> {
