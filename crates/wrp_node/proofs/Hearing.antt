@@ -19,7 +19,7 @@ use Rattle.wrp_node.specs.NodeAt.{NodeSetting, NodeAt, setting_of, line_at, link
 use Rattle.wrp_link.specs.Table.{word_of}
 use Rattle.wrp_node.specs.NodeStep.{dropped, used, measured_at, message_of, stamp_of}
 use Rattle.wrp_node.specs.Parts.{PlaceIn, PartsIn, is_among, given, taken_unless, four_unless, reason_at, HearsAt}
-use Rattle.wrp_node.specs.Place.{Gives, GivenWhere, GivesTo, place_of, newest_sends}
+use Rattle.wrp_node.specs.Place.{Gives, GivenWhere, GivesTo, is_message, place_of, newest_sends}
 use Rattle.wrp_node.specs.Telling.{step_from, counted, counted_at}
 use Rattle.wrp_node.proofs.Giving.{parts_same, parts_given, line_is, numbers_given}
 use Rattle.wrp_node.proofs.Lists.{zip_all}
@@ -71,30 +71,30 @@ found_both P R p (x ∷ xs) (y ∷ ys) n z h e =
 given_here : (p : ℕ) (input : PortIn) (x y : PortPlace) → x.number ≡ p → GivesTo (One p) input x y → Gives input x y
 given_here p input x y e g = subst (λ (b : Bool). GivenWhere b input x y) (ap (λ (k : ℕ). k == p) e ∙ eq_self p) g
 
-measured_here : (fixed : NodeSetting) (n : NodeAt) (p : ℕ) (input : PortIn) (xs ys : List PortPlace) → AllZip (GivesTo (One p) input) xs ys →
+measured_here : (fixed : NodeSetting) (n : NodeAt) (p : ℕ) (input : PortIn) (xs ys : List PortPlace) → is_message input ≡ true → AllZip (GivesTo (One p) input) xs ys →
     AllByRecursion (PlaceIn fixed n (step_from n)) xs → is_among p xs ≡ true → measured_in (place_of p ys) ≡ measured_at fixed n p input
-measured_here fixed n p input xs ys z h e =
+measured_here fixed n p input xs ys m z h e =
     let f : FoundBoth (PlaceIn fixed n (step_from n)) (GivesTo (One p) input) p ys =
     found_both (PlaceIn fixed n (step_from n)) (GivesTo (One p) input) p xs ys (λ x y g. number_kept (One p) input x y (x.number == p) g) z h e in
     let g : Gives input f.old f.new = given_here p input f.old f.new f.number f.related in
     ap measured_in f.is
-    ∙ g.measured (calls_of f.old.port.set (n.told f.old.number)) f.holds.stands.told.exchange
+    ∙ g.measured m (calls_of f.old.port.set (n.told f.old.number)) f.holds.stands.told.exchange
     ∙ ap₂ (λ (x : Setting) (l : Rest). measured_by x l (calls_of x (n.told f.old.number)) input) f.holds.stands.set (line_is fixed n f.old f.holds.stands)
     ∙ ap (λ (q : ℕ). measured_at fixed n q input) f.number
 
-times_in : (p : ℕ) (input : PortIn) (x y : PortPlace) (ys : List PortPlace) (b : Bool) → (y.number == p) ≡ b → (b ≡ true → Gives input x y) →
+times_in : (p : ℕ) (input : PortIn) → is_message input ≡ true → (x y : PortPlace) (ys : List PortPlace) (b : Bool) → (y.number == p) ≡ b → (b ≡ true → Gives input x y) →
     IfSome (measured_in (place_of p ys)) HasTimes → IfSome (measured_in (place_of p (y ∷ ys))) HasTimes
-times_in p input x y ys true e g rest = rw e (g refl).times
-times_in p input x y ys false e g rest = rw e rest
+times_in p input m x y ys true e g rest = rw e ((g refl).times m)
+times_in p input m x y ys false e g rest = rw e rest
 
-pub times_here : (p : ℕ) (input : PortIn) (xs ys : List PortPlace) → AllZip (GivesTo (One p) input) xs ys → IfSome (measured_in (place_of p ys)) HasTimes
-times_here p input [] [] z = tt
-times_here p input [] (y ∷ ys) z = absurd z
-times_here p input (x ∷ xs) [] z = absurd z
-times_here p input (x ∷ xs) (y ∷ ys) z =
+pub times_here : (p : ℕ) (input : PortIn) → is_message input ≡ true → (xs ys : List PortPlace) → AllZip (GivesTo (One p) input) xs ys → IfSome (measured_in (place_of p ys)) HasTimes
+times_here p input m [] [] z = tt
+times_here p input m [] (y ∷ ys) z = absurd z
+times_here p input m (x ∷ xs) [] z = absurd z
+times_here p input m (x ∷ xs) (y ∷ ys) z =
     let n : y.number ≡ x.number = number_kept (One p) input x y (x.number == p) z.0 in
-    times_in p input x y ys (y.number == p) refl
-    (λ yes. given_here p input x y (sym n ∙ eqb-true y.number p yes) z.0) (times_here p input xs ys z.1)
+    times_in p input m x y ys (y.number == p) refl
+    (λ yes. given_here p input x y (sym n ∙ eqb-true y.number p yes) z.0) (times_here p input m xs ys z.1)
 
 -- ---- it is taken
 
@@ -205,11 +205,11 @@ heard_as : (fixed : NodeSetting) (n : NodeAt) (p : ℕ) (m : PtpMsg) (raw : Raw)
 heard_as fixed n p m raw sample old ys None e fit z h a = (
   parts_used fixed n p (message_of fixed n p m raw sample) (record old { ports = ys })
       (parts_given fixed n (step_from n) (One p) (message_of fixed n p m raw sample) old ys fit z h),
-  measured_here fixed n p (message_of fixed n p m raw sample) old.ports ys z h.places a,
+  measured_here fixed n p (message_of fixed n p m raw sample) old.ports ys refl z h.places a,
 )
 heard_as fixed n p m raw sample old ys (Some reason) e fit z h a = (
   parts_dropped fixed n p m (stamp_of fixed n p raw sample) n.ticks reason old ys e z h,
-  measured_here fixed n p (message_of fixed n p m raw sample) old.ports ys z h.places a
+  measured_here fixed n p (message_of fixed n p m raw sample) old.ports ys refl z h.places a
       ∙ measured_none (setting_of fixed.set p) (line_at fixed.set n p) (pieces_at fixed.set n p) m (stamp_of fixed n p raw sample) n.ticks reason e,
 )
 

@@ -37,7 +37,7 @@ stamp_in clock raw sample place = record { value = pos (merged clock raw (transi
 -- the four stamps of the measurement that the newest message at the port made, if it made one
 abbrev pub measured_in : Option PortPlace → Option Four
 measured_in None = None
-measured_in (Some place) = place.measured
+measured_in (Some place) = place.lent.measured
 
 -- the word of the port; down where there is no port
 abbrev pub word_in : Option PortPlace → LinkWord

@@ -13,6 +13,7 @@ use Rattle.wrp_node.specs.declared.ports.To.TheVariants.{Every, One}
 use Rattle.wrp_node.specs.NodeRun.{word_out, frame_out}
 use Rattle.wrp_node.specs.Telling.{counted}
 use Rattle.wrp_port.specs.declared.interface.PortIn.{PortIn}
+use Rattle.wrp_port.specs.declared.interface.PortIn.TheVariants.{Msg}
 use Rattle.wrp_port.specs.Outputs.{sends_of, drop_of, measured_by, is_dropped_early}
 use Rattle.wrp_port.specs.PortAt.{StandsFor as PortStandsFor}
 
@@ -20,6 +21,11 @@ use Rattle.wrp_port.specs.PortAt.{StandsFor as PortStandsFor}
 abbrev pub newest_sends : List PtpMsg → List PtpMsg → List PtpMsg
 newest_sends [] before = before
 newest_sends (message ∷ messages) before = message ∷ messages
+
+-- whether an input is a message
+abbrev pub is_message : PortIn → Bool
+is_message (Msg message stamp tick) = true
+is_message _ = false
 
 -- the port was told one input more: it counts why it dropped a message, and keeps what it is to send
 pub record Gives (input : PortIn) (old new : PortPlace) : Type 0 where
@@ -32,9 +38,9 @@ pub record Gives (input : PortIn) (old new : PortPlace) : Type 0 where
       (calls : List Call) → ExchangeStandsFor old.port.set.ring old.port.exchange calls →
       new.counters ≡ counted (drop_of old.port.set old.port.line calls input) old.counters
   pub measured :
-      (calls : List Call) → ExchangeStandsFor old.port.set.ring old.port.exchange calls →
-      new.measured ≡ measured_by old.port.set old.port.line calls input
-  pub times : IfSome new.measured HasTimes
+      is_message input ≡ true → (calls : List Call) → ExchangeStandsFor old.port.set.ring old.port.exchange calls →
+      new.lent.measured ≡ measured_by old.port.set old.port.line calls input
+  pub times : is_message input ≡ true → IfSome new.lent.measured HasTimes
   pub sends : new.sends.items ≡ newest_sends (sends_of old.port.set old.port.line input) old.sends.items
 
 -- whom an input is for

@@ -20,7 +20,7 @@ impl Parts {
     {
         self.ticks += 1;
         if let Some(slave) = self.slave {
-            self.give(To::One(slave), PortIn::Lease);
+            self.give(To::One(slave), &PortIn::Lease);
         }
     }
 
@@ -29,7 +29,7 @@ impl Parts {
         ensures { Leads parts_reset self.old self.new }
     {
         self.ticks = 0;
-        self.give(To::Every, PortIn::Reset);
+        self.give(To::Every, &PortIn::Reset);
     }
 
     /// Whether the slave port's lease is fresh.
@@ -117,10 +117,10 @@ impl Parts {
     /// (reasons 9 to 12): then the port counts it, and nothing else changes. None where it is taken and
     /// makes no measurement: then the port was told it, and counts it if it was of no use there. None
     /// where no port has the number: then nothing changes.
-    pub fn hear(&mut self, port: u16, message: PtpMsg, raw: &Raw, sample: u32) -> Option<Four>
-        requires sound { IsSound message }
+    pub fn hear(&mut self, port: u16, message: &PtpMsg, raw: &Raw, sample: u32) -> Option<Four>
+        requires sound { IsSound message.now }
         requires raw { FitsRaw raw.now }
-        ensures hears { Hears port message raw.now sample self.old self.new result }
+        ensures hears { Hears port message.now raw.now sample self.old self.new result }
         ensures times { IfSome result HasTimes }
     {
         self.ports

@@ -4,7 +4,7 @@ ghost use Rattle.wrp_data.specs.Reason.{IsReason};
 ghost use Rattle.wrp_node.specs.Parts.{Begun, Leads, AnswerTaken, given, told_only, slave_told, reason_counted, commanded};
 ghost use Rattle.wrp_node.specs.Telling.{newest_step, with_news, with_sample};
 ghost use Rattle.wrp_node.specs.declared.ports.To.TheVariants.{One};
-ghost use Rattle.wrp_port.specs.declared.interface.PortIn.TheVariants.{Sample};
+ghost use Rattle.wrp_port.specs.declared.interface.PortIn.TheVariants.{Chain, Sample};
 ghost use Rattle.wrp_port.specs.PortAt.{IsFit};
 
 use crate::ports::{Ports, To};
@@ -42,9 +42,9 @@ impl Parts {
     }
 
     /// Tells some ports an input.
-    pub fn give(&mut self, to: To, input: PortIn)
-        requires { IsFit input }
-        ensures { Leads (given to input) self.old self.new }
+    pub fn give(&mut self, to: To, input: &PortIn)
+        requires { IsFit input.now }
+        ensures { Leads (given to input.now) self.old self.new }
     {
         self.ports.give(to, input);
     }
@@ -87,11 +87,16 @@ impl Parts {
     {
         match news {
             ChainNews::Same => {}
-            ChainNews::Started(n) => {
-                self.give(To::One(slave), PortIn::Chain(ChainNews::Started(n)));
-            }
-            ChainNews::Ended => self.give(To::One(slave), PortIn::Chain(ChainNews::Ended)),
+            ChainNews::Started(n) => self.give_chain(slave, ChainNews::Started(n)),
+            ChainNews::Ended => self.give_chain(slave, ChainNews::Ended),
         }
+    }
+
+    // News of the chain.
+    fn give_chain(&mut self, slave: u16, news: ChainNews)
+        ensures { Leads (given (One slave) (Chain news)) self.old self.new }
+    {
+        self.give(To::One(slave), &PortIn::Chain(news));
     }
 
     // A good sample.
@@ -107,7 +112,7 @@ impl Parts {
     fn give_phase(&mut self, slave: u16, number: u32, u: i64)
         ensures { Leads (given (One slave) (Sample number u)) self.old self.new }
     {
-        self.give(To::One(slave), PortIn::Sample { n: number, u });
+        self.give(To::One(slave), &PortIn::Sample { n: number, u });
     }
 
     // What the answer commands.

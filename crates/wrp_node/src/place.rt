@@ -1,20 +1,23 @@
 //! A port at its place in a node: with its number, its counters, and what it is about to put out.
-ghost use Rattle.std.specs.Prelude.{◌≡◌, ◌≤◌, ◌<◌, ◌+◌, ◌++◌, length, map, [], Some};
+ghost use Rattle.std.specs.Prelude.{◌≡◌, ◌≤◌, ◌<◌, ◌+◌, ◌++◌, ◌∷◌, length, map, [], Some};
 ghost use Rattle.std.specs.List.{AllByRecursion};
 ghost use Rattle.wrp_base.specs.Message.{IsSound};
 ghost use Rattle.wrp_data.specs.Counters.{no_counts};
 ghost use Rattle.wrp_node.specs.Inputs.{stamp_in, transition_in};
 ghost use Rattle.wrp_node.specs.Parts.{FitsRaw};
+ghost use Rattle.wrp_node.specs.declared.interface.Output.TheVariants as out;
 ghost use Rattle.wrp_node.specs.Place.{newest_sends, Gives, Begins, place_out};
 ghost use Rattle.wrp_node.specs.Spelled.{AreSpelled, IsSpelled};
 ghost use Rattle.wrp_link.specs.Table.{word_of};
 ghost use Rattle.wrp_node.specs.NodeRun.{word_out, frame_out};
 ghost use Rattle.wrp_node.specs.Telling.{counted};
+ghost use Rattle.wrp_port.specs.declared.interface.PortIn.TheVariants as port;
+ghost use Rattle.wrp_port.specs.Outputs.{IsPortReason};
 ghost use Rattle.wrp_port.specs.PortAt.{IsFit, IsStamp};
 
 use crate::{Output, Outputs, Report};
 use arrayvec::ArrayVec;
-use wrp_base::{Clock, Four, LinkWord, PtpMsg, Raw, STEPS_OF_PERIOD, Stamp, Tau};
+use wrp_base::{Clock, LinkWord, PtpMsg, Raw, STEPS_OF_PERIOD, Stamp, Tau};
 use wrp_data::Counters;
 use wrp_frame::encode;
 use wrp_port::{Port, PortIn, PortOut};
@@ -33,9 +36,7 @@ pub struct PortPlace {
     pub word: LinkWord,
     /// What the input makes it send.
     pub sends: ArrayVec<PtpMsg, 4>,
-    /// The four stamps of a measurement that the newest message made.
-    pub measured: Option<Four>,
-    /// What it lends to the port for its answer.
+    /// What it lends to the port for its answer; from there the measurement is read that a message made.
     pub lent: PortOut,
 }
 
@@ -53,7 +54,6 @@ impl PortPlace {
             counters: Counters::new(),
             word,
             sends: ArrayVec::new(),
-            measured: None,
             lent: PortOut::new(),
         }
     }
@@ -64,20 +64,74 @@ impl PortPlace {
     {
         self.word = self.port.word();
         self.sends.clear();
-        self.measured = None;
     }
 
-    /// Tells the port an input.
-    pub fn tell(&mut self, input: PortIn)
-        requires { IsFit input }
-        ensures { Gives input self.old self.new }
+    /// Tells the port an input. Those that come most often have a call of their own, which copies less.
+    pub fn tell(&mut self, input: &PortIn)
+        requires { IsFit input.now }
+        ensures { Gives input.now self.old self.new }
     {
-        self.port.step_into(input, &mut self.lent);
+        match input {
+            PortIn::Tick { locked, certain } => self.tick(*locked, *certain),
+            PortIn::Lease => self.turn_lease(),
+            PortIn::Sample { n, u } => self.take_sample(*n, *u),
+            _ => self.tell_other(input),
+        }
+    }
+
+    // Tells the port an input of whatever kind.
+    fn tell_other(&mut self, input: &PortIn)
+        requires { IsFit input.now }
+        ensures { Gives input.now self.old self.new }
+    {
+        self.port.step_into(*input, &mut self.lent);
+        self.count_drop();
+        self.keep();
+    }
+
+    // Tells the port a tick.
+    fn tick(&mut self, locked: bool, certain: bool)
+        ensures { Gives (port.Tick locked certain) self.old self.new }
+    {
+        self.port.tick_into(locked, certain, &mut self.lent.sends);
+        self.keep();
+    }
+
+    // Gives the lease of the port its turn.
+    fn turn_lease(&mut self)
+        ensures { Gives port.Lease self.old self.new }
+    {
+        self.port.turn_lease();
+    }
+
+    // Tells the port a good sample.
+    fn take_sample(&mut self, n: u32, u: i64)
+        ensures { Gives (port.Sample n u) self.old self.new }
+    {
+        self.port.take_sample(n, u);
+    }
+
+    /// Hands the port a message.
+    pub fn hear(&mut self, message: &PtpMsg, stamp: Stamp, tick: u32)
+        requires sound { IsSound message.now }
+        requires stamp { IsStamp stamp }
+        ensures { Gives (port.Msg message.now stamp tick) self.old self.new }
+    {
+        self.port.hear_into(message, stamp, tick, &mut self.lent);
+        self.count_drop();
+        self.keep();
+    }
+
+    // Counts why the port dropped a message, if it did.
+    fn count_drop(&mut self)
+        requires { IsPortReason self.old.lent.drop }
+        ensures { self.new ≡ record self.old {
+          counters = counted self.old.lent.drop self.old.counters;
+        } }
+    {
         if let Some(reason) = self.lent.drop {
             self.counters.count(reason);
         }
-        self.keep();
-        self.measured = self.lent.measured;
     }
 
     // Keeps what is to be sent, if there is something.
@@ -141,10 +195,13 @@ impl PortPlace {
     {
         let word = self.port.word();
         if word != self.word {
-            outs.push(Output::Report(Report::Link {
-                port: self.number,
-                word,
-            }));
+            push_report(
+                Report::Link {
+                    port: self.number,
+                    word,
+                },
+                outs,
+            );
         }
     }
 
@@ -157,8 +214,19 @@ impl PortPlace {
         ensures room { length outs.new.items ≤ length outs.old.items + 4 }
     {
         for message in self.sends.as_slice() {
-            outs.push(self.frame(message));
+            self.put_frame(message, outs);
         }
+    }
+
+    // Puts out a frame.
+    fn put_frame(&self, message: &PtpMsg, outs: &mut Outputs)
+        requires sound { IsSound message.now }
+        requires room { length outs.old.items + 1 ≤ 96 }
+        ensures items { outs.new.items ≡ outs.old.items ++ (frame_out self.now.number message.now ∷ []) }
+        ensures spelled { IsSpelled message.now }
+        ensures room { length outs.new.items ≡ length outs.old.items + 1 }
+    {
+        outs.push(self.frame(message));
     }
 
     // A frame of the port.
@@ -172,6 +240,15 @@ impl PortPlace {
             frame: encode(message),
         }
     }
+}
+
+/// Puts out a report.
+pub fn push_report(report: Report, outs: &mut Outputs)
+    requires room { length outs.old.items + 1 ≤ 96 }
+    ensures items { outs.new.items ≡ outs.old.items ++ (out.Report report ∷ []) }
+    ensures room { length outs.new.items ≡ length outs.old.items + 1 }
+{
+    outs.push(Output::Report(report));
 }
 
 // A stamp of this reading.

@@ -72,9 +72,9 @@ impl Ports {
     }
 
     /// Tells some ports an input.
-    pub fn give(&mut self, to: To, input: PortIn)
-        requires { IsFit input }
-        ensures { AllZip (GivesTo to input) self.old self.new }
+    pub fn give(&mut self, to: To, input: &PortIn)
+        requires { IsFit input.now }
+        ensures { AllZip (GivesTo to input.now) self.old self.new }
     {
         match to {
             To::Every => self.give_every(input),
@@ -83,9 +83,9 @@ impl Ports {
     }
 
     // Tells every port an input.
-    fn give_every(&mut self, input: PortIn)
-        requires { IsFit input }
-        ensures { AllZip (GivesTo Every input) self.old self.new }
+    fn give_every(&mut self, input: &PortIn)
+        requires { IsFit input.now }
+        ensures { AllZip (GivesTo Every input.now) self.old self.new }
     {
         for place in self.places.iter_mut() {
             place.tell(input);
@@ -93,9 +93,9 @@ impl Ports {
     }
 
     // Tells the port of a number an input.
-    fn give_one(&mut self, number: u16, input: PortIn)
-        requires { IsFit input }
-        ensures { AllZip (GivesTo (One number) input) self.old self.new }
+    fn give_one(&mut self, number: u16, input: &PortIn)
+        requires { IsFit input.now }
+        ensures { AllZip (GivesTo (One number) input.now) self.old self.new }
     {
         if let Some(at) = self.at(number) {
             self.places[usize::from(at)].tell(input);
@@ -109,28 +109,24 @@ impl Ports {
     pub fn hear(
         &mut self,
         number: u16,
-        message: PtpMsg,
+        message: &PtpMsg,
         raw: &Raw,
         sample: u32,
         clock: Clock,
         tick: u32,
     ) -> Option<Four>
-        requires sound { IsSound message }
+        requires sound { IsSound message.now }
         requires raw { FitsRaw raw.now }
         ensures given { let stamp = stamp_in clock raw.now sample (place_of number self.old) in
-            AllZip (GivesTo (One number) (Msg message stamp tick)) self.old self.new }
+            AllZip (GivesTo (One number) (Msg message.now stamp tick)) self.old self.new }
         ensures fits { IfSome (place_of number self.old)
             (λ place. IsStamp (stamp_in clock raw.now sample (Some place))) }
         ensures measured { result ≡ measured_in (place_of number self.new) }
     {
         let at = usize::from(self.at(number)?);
         let stamp = self.places[at].stamp(raw, sample, clock);
-        self.places[at].tell(PortIn::Msg {
-            msg: message,
-            stamp,
-            tick,
-        });
-        self.places[at].measured
+        self.places[at].hear(message, stamp, tick);
+        self.places[at].lent.measured
     }
 
     /// Counts a reason, 1 to 15, at the port of a number.

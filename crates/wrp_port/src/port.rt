@@ -1,6 +1,7 @@
 //! The port itself: its calls.
 mod hears;
 mod takes;
+mod tells;
 
 ghost use Rattle.std.specs.Prelude.{◌≡◌, ◌≤◌, nat_lt, ℕ, List, [], IfOk, IfSome, IsTrue};
 ghost use Rattle.wrp_base.specs.Calls.{Adds};

@@ -1,12 +1,14 @@
 //! What a node puts out at the end of an input.
-ghost use Rattle.std.specs.Prelude.{◌≡◌, ◌≤◌, ◌+◌, ◌++◌, length};
+ghost use Rattle.std.specs.Prelude.{◌≡◌, ◌≤◌, ◌+◌, ◌++◌, ◌∷◌, [], length};
 ghost use Rattle.std.specs.List.{AllByRecursion};
 ghost use Rattle.wrp_base.specs.Message.{IsSound};
+ghost use Rattle.wrp_node.specs.declared.interface.Output.TheVariants as out;
 ghost use Rattle.wrp_node.specs.Node.{puts_out, track_in};
 ghost use Rattle.wrp_node.specs.NodeRun.{step_out, dac_out, servo_out, est_out};
 ghost use Rattle.wrp_node.specs.Spelled.{AllSpelled};
 
 use super::Node;
+use crate::place::push_report;
 use crate::{Output, Outputs, Report};
 use wrp_base::{ServoState, Tau};
 
@@ -47,8 +49,18 @@ fn put_step(cycles: i64, outs: &mut Outputs)
     ensures room { length outs.new.items ≤ length outs.old.items + 1 }
 {
     if cycles.unsigned_abs() != 0 {
-        outs.push(Output::Step { cycles });
+        push_step(cycles, outs);
     }
+}
+
+// A step of the clock. Each output is made in a call of its own, so that an input that has none of
+// its kind fills no room for it.
+fn push_step(cycles: i64, outs: &mut Outputs)
+    requires room { length outs.old.items + 1 ≤ 96 }
+    ensures items { outs.new.items ≡ outs.old.items ++ (out.Step cycles ∷ []) }
+    ensures room { length outs.new.items ≡ length outs.old.items + 1 }
+{
+    outs.push(Output::Step { cycles });
 }
 
 // A DAC value, where it is a new one.
@@ -58,8 +70,17 @@ fn put_dac(dac: Option<u16>, outs: &mut Outputs)
     ensures room { length outs.new.items ≤ length outs.old.items + 1 }
 {
     if let Some(value) = dac {
-        outs.push(Output::Dac { value });
+        push_dac(value, outs);
     }
+}
+
+// A DAC value.
+fn push_dac(value: u16, outs: &mut Outputs)
+    requires room { length outs.old.items + 1 ≤ 96 }
+    ensures items { outs.new.items ≡ outs.old.items ++ (out.Dac value ∷ []) }
+    ensures room { length outs.new.items ≡ length outs.old.items + 1 }
+{
+    outs.push(Output::Dac { value });
 }
 
 // The state of the servo, where it changed.
@@ -69,7 +90,7 @@ fn put_state(before: ServoState, after: ServoState, outs: &mut Outputs)
     ensures room { length outs.new.items ≤ length outs.old.items + 1 }
 {
     if before != after {
-        outs.push(Output::Report(Report::Servo(after)));
+        push_report(Report::Servo(after), outs);
     }
 }
 
@@ -80,6 +101,6 @@ fn put_track(est: Option<Tau>, outs: &mut Outputs)
     ensures room { length outs.new.items ≤ length outs.old.items + 1 }
 {
     if let Some(est) = est {
-        outs.push(Output::Report(Report::Track { est }));
+        push_report(Report::Track { est }, outs);
     }
 }

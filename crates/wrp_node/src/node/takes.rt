@@ -102,7 +102,8 @@ impl<F: Fn(i64) -> i64> Node<F> {
     {
         let locked = self.control.locked();
         let certain = self.control.certain();
-        self.parts.give(To::Every, PortIn::Tick { locked, certain });
+        self.parts
+            .give(To::Every, &PortIn::Tick { locked, certain });
     }
 
     // A sample.
@@ -126,7 +127,7 @@ impl<F: Fn(i64) -> i64> Node<F> {
         let tick = self.parts.ticks;
         self.parts.give(
             To::One(port),
-            PortIn::Sent {
+            &PortIn::Sent {
                 delay,
                 seq,
                 stamp,
@@ -144,7 +145,7 @@ impl<F: Fn(i64) -> i64> Node<F> {
     {
         self.parts.give(
             To::One(port),
-            PortIn::Carrier {
+            &PortIn::Carrier {
                 up,
                 module: own_module,
             },
@@ -174,20 +175,20 @@ impl<F: Fn(i64) -> i64> Node<F> {
         ensures takes { TakesFrame F.post port bytes.now.items raw.now sample self.old self.new }
     {
         match decode(bytes.as_slice()) {
-            Ok(message) => self.message(port, message, raw, sample),
+            Ok(message) => self.message(port, &message, raw, sample),
             Err(fault) => self.parts.count(port, Some(fault.number())),
         }
     }
 
     // A message: where it makes a measurement, the servo is told.
-    fn message(&mut self, port: u16, message: PtpMsg, raw: &Raw, sample: u32)
+    fn message(&mut self, port: u16, message: &PtpMsg, raw: &Raw, sample: u32)
         requires law { KeepsLaw F.pre F.post self.old.control }
         requires port { is_among port self.old.parts.ports ≡ true }
-        requires sound { IsSound message }
+        requires sound { IsSound message.now }
         requires raw { FitsRaw raw.now }
         ensures law { KeepsLaw F.pre F.post self.new.control }
         ensures same_law { law_in self.new.control ≡ law_in self.old.control }
-        ensures takes { TakesMessage F.post port message raw.now sample self.old self.new }
+        ensures takes { TakesMessage F.post port message.now raw.now sample self.old self.new }
     {
         let four = self.parts.hear(port, message, raw, sample);
         if let Some(four) = four {

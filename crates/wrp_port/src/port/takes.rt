@@ -86,14 +86,14 @@ impl Port {
     }
 
     // One turn of the lease.
-    fn lease_turn(&mut self)
+    pub(super) fn lease_turn(&mut self)
         ensures { self.new ≡ record self.old { line = after self.old.set self.old.line PortIn.Lease } }
     {
         self.line.lease = self.line.lease.saturating_sub(1);
     }
 
     // A tick: first the link, then what is due. A Delay_Req that is sent is told to the exchange.
-    fn tick(&mut self, locked: bool, certain: bool, sends: &mut Sends)
+    pub(super) fn tick(&mut self, locked: bool, certain: bool, sends: &mut Sends)
         requires { sends.old.items ≡ [] }
         ensures set { self.new.set ≡ self.old.set }
         ensures line { self.new.line ≡ after self.old.set self.old.line (PortIn.Tick locked certain) }
@@ -181,7 +181,7 @@ impl Port {
     }
 
     // A good sample: a slave's exchange keeps it.
-    fn sample(&mut self, n: u32, u: i64)
+    pub(super) fn sample(&mut self, n: u32, u: i64)
         ensures set { self.new.set ≡ self.old.set }
         ensures line { self.new.line ≡ self.old.line }
         ensures exchange { (calls : List Call) → ExchangeStandsFor self.old.set.ring self.old.exchange calls →

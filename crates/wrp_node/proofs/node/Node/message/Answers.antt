@@ -14,9 +14,9 @@ returns-in-Some-clause-takes g c = (
   c.measured-out.ensures.calls.0,
   λ fixed n h.
       let here = inside_in c.self.view_is h in
-      message_some fixed n c.args.port c.args.message c.args.raw.now c.args.sample c.measured-out.ensures.calls.0 c.in-Some.four c.hear-four.new.self c.measured-out.result
+      message_some fixed n c.args.port c.args.message.now c.args.raw.now c.args.sample c.measured-out.ensures.calls.0 c.in-Some.four c.hear-four.new.self c.measured-out.result
       c.take_answer.new.self c.measured-out.new.self c.self.inside.report
-      (subst (λ (o : Option Four). HearsAt fixed n c.args.port c.args.message c.args.raw.now c.args.sample c.hear-four.new.self o) c.in-Some.is
+      (subst (λ (o : Option Four). HearsAt fixed n c.args.port c.args.message.now c.args.raw.now c.args.sample c.hear-four.new.self o) c.in-Some.is
       (c.hear-four.ensures.hears fixed n here.parts (ap (λ v. is_among c.args.port v.parts.ports) c.self.view_is ∙ c.requires.port)))
       (c.measured-out.ensures.calls.1 fixed n.calls here.control) (λ s k call e m. c.take_answer.ensures fixed n s call k e m) here.report,
 )
@@ -26,8 +26,8 @@ returns-in_default-clause-takes g c = (
   pos 0,
   λ fixed n h.
       let here = inside_in c.self.view_is h in
-      message_none fixed n c.args.port c.args.message c.args.raw.now c.args.sample (pos 0) c.hear-four.new.self c.self.inside.control c.self.inside.report
-      (subst (λ (o : Option Four). HearsAt fixed n c.args.port c.args.message c.args.raw.now c.args.sample c.hear-four.new.self o) (none_is c.hear-four.result c.in_default.not-Some)
+      message_none fixed n c.args.port c.args.message.now c.args.raw.now c.args.sample (pos 0) c.hear-four.new.self c.self.inside.control c.self.inside.report
+      (subst (λ (o : Option Four). HearsAt fixed n c.args.port c.args.message.now c.args.raw.now c.args.sample c.hear-four.new.self o) (none_is c.hear-four.result c.in_default.not-Some)
       (c.hear-four.ensures.hears fixed n here.parts (ap (λ v. is_among c.args.port v.parts.ports) c.self.view_is ∙ c.requires.port)))
       here.control here.report,
 )

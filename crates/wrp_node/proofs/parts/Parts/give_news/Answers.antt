@@ -14,10 +14,10 @@ returns-in-Same c fixed before s h =
 
 pub returns-in-Started : goal.returns-in-Started
 returns-in-Started c fixed before s h =
-    subst (λ (news : ChainNews). PartsIn fixed before (told_only c.args.slave (with_news news) fixed s) c.give.new.self) (sym c.in-Started.is)
-    (chain_told fixed before s c.args.slave (Started c.in-Started.n) c.give.new.self (c.give.ensures fixed before s h))
+    subst (λ (news : ChainNews). PartsIn fixed before (told_only c.args.slave (with_news news) fixed s) c.give_chain.new.self) (sym c.in-Started.is)
+    (chain_told fixed before s c.args.slave (Started c.in-Started.n) c.give_chain.new.self (c.give_chain.ensures fixed before s h))
 
 pub returns-in-Ended : goal.returns-in-Ended
 returns-in-Ended c fixed before s h =
-    subst (λ (news : ChainNews). PartsIn fixed before (told_only c.args.slave (with_news news) fixed s) c.give-in-Ended.new.self) (sym c.in-Ended.is)
-    (chain_told fixed before s c.args.slave Ended c.give-in-Ended.new.self (c.give-in-Ended.ensures fixed before s h))
+    subst (λ (news : ChainNews). PartsIn fixed before (told_only c.args.slave (with_news news) fixed s) c.give_chain-in-Ended.new.self) (sym c.in-Ended.is)
+    (chain_told fixed before s c.args.slave Ended c.give_chain-in-Ended.new.self (c.give_chain-in-Ended.ensures fixed before s h))

@@ -20,12 +20,12 @@ loop-message-preserved c =
     let i : ℕ = c.loop-message.message-index in
     let number : ℕ = c.args.self.now.number in
     let below : i < length c.args.self.now.sends.items = omega (arith, ap length c.as_slice-message-items.ensures.value) in (
-      c.push.ensures.items
+      c.put_frame.ensures.items
           ∙ ap₂ (λ (a : List Output) (x : Output). a ++ (x ∷ [])) c.loop-message.invariant.0
-          (c.frame.ensures.value ∙ ap (λ (xs : List PtpMsg). frame_out number (slice_index_or xs i nothing)) c.as_slice-message-items.ensures.value)
+          (ap (λ (xs : List PtpMsg). frame_out number (slice_index_or xs i nothing)) c.as_slice-message-items.ensures.value)
           ∙ pushed_more (frame_out number) c.args.self.now.sends.items i nothing c.args.outs.now.items below,
-      omega (arith, ap length c.push.ensures.items, c.push.ensures.len, c.loop-message.invariant.1),
+      omega (arith, c.put_frame.ensures.room, c.loop-message.invariant.1),
       all_more IsSpelled c.args.self.now.sends.items i nothing below
-          (subst (λ (xs : List PtpMsg). IsSpelled (slice_index_or xs i nothing)) c.as_slice-message-items.ensures.value c.frame.ensures.spelled)
+          (subst (λ (xs : List PtpMsg). IsSpelled (slice_index_or xs i nothing)) c.as_slice-message-items.ensures.value c.put_frame.ensures.spelled)
           c.loop-message.invariant.2,
     )

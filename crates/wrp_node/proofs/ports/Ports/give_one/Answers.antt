@@ -16,10 +16,10 @@ pub returns-in-Some : goal.returns-in-Some
 returns-in-Some c =
     let h : Here c.args.number c.self.inside.places.items c.from.result c.index_mut.result.now =
     here c.args.number c.in-Some.at c.from.result c.self.inside.places.items c.args.self.now c.index_mut.result.now (ap numbers_in c.self.view_is) c.from.ensures c.in-Some.ensures c.index_mut.ensures.value in
-    done_here (GivesTo (One c.args.number) c.args.input) c.args.number c.from.result c.self.inside.places.items c.args.self.now c.index_mut.result.now c.tell.new.self
-    (given_not c.args.number c.args.input) c.self.view_is h c.self.invariant.different (given_is c.args.number c.args.input c.index_mut.result.now c.tell.new.self h.number c.tell.ensures)
+    done_here (GivesTo (One c.args.number) c.args.input.now) c.args.number c.from.result c.self.inside.places.items c.args.self.now c.index_mut.result.now c.tell.new.self
+    (given_not c.args.number c.args.input.now) c.self.view_is h c.self.invariant.different (given_is c.args.number c.args.input.now c.index_mut.result.now c.tell.new.self h.number c.tell.ensures)
 
 pub returns-in_default : goal.returns-in_default
 returns-in_default c =
-    done_nowhere (GivesTo (One c.args.number) c.args.input) c.args.number c.args.self.now (given_not c.args.number c.args.input)
+    done_nowhere (GivesTo (One c.args.number) c.args.input.now) c.args.number c.args.self.now (given_not c.args.number c.args.input.now)
     (nowhere c.args.number (numbers_in c.args.self.now) c.at.result c.in_default.not-Some c.at.ensures)

@@ -14,7 +14,7 @@ use Rattle.wrp_port.specs.PortAt.{IsStamp}
 
 pub returns-in_err-at-clause-given : goal.returns-in_err-at-clause-given
 returns-in_err-at-clause-given c =
-    let input = Msg c.args.message (stamp_in c.args.clock c.args.raw.now c.args.sample (place_of c.args.number c.args.self.now)) c.args.tick in
+    let input = Msg c.args.message.now (stamp_in c.args.clock c.args.raw.now c.args.sample (place_of c.args.number c.args.self.now)) c.args.tick in
     done_nowhere (GivesTo (One c.args.number) input) c.args.number c.args.self.now (given_not c.args.number input)
     (subst (IsWhere c.args.number (numbers_in c.args.self.now)) c.in_err-at.was c.at.ensures)
 
@@ -33,7 +33,7 @@ invariant_of-self c =
     let h : Here c.args.number c.self.inside.places.items c.from-at.result c.index_mut.result.now =
     here c.args.number c.in_ok-at.field-0 c.from-at.result c.self.inside.places.items c.args.self.now c.index_mut.result.now (ap numbers_in c.self.view_is) c.from-at.ensures
     (subst (IsWhere c.args.number (numbers_in c.args.self.now)) c.in_ok-at.was c.at.ensures) c.index_mut.ensures.value in
-    indexed_here c.args.number c.from-at.result c.self.inside.places.items c.index_mut.result.now c.tell.new.self c.self.inside.index h c.tell.ensures.number c.self.invariant
+    indexed_here c.args.number c.from-at.result c.self.inside.places.items c.index_mut.result.now c.hear.new.self c.self.inside.index h c.hear.ensures.number c.self.invariant
 
 pub returns-clause-given : goal.returns-clause-given
 returns-clause-given c =
@@ -45,10 +45,10 @@ returns-clause-given c =
     here c.args.number c.in_ok-at.field-0 c.from-at.result c.self.inside.places.items c.args.self.now c.index.result.now numbers c.from-at.ensures at c.index.ensures in
     let found = place_here c.args.number c.from-at.result c.self.inside.places.items c.args.self.now c.index.result.now c.self.view_is read c.self.invariant.different in
     let stamp = c.stamp-stamp.ensures.value ∙ ap (stamp_in c.args.clock c.args.raw.now c.args.sample) (sym found) in
-    let input = Msg c.args.message c.stamp-stamp.result c.args.tick in
-    subst (λ (t : Stamp). AllZip (GivesTo (One c.args.number) (Msg c.args.message t c.args.tick)) c.args.self.now (slice_set c.self.inside.places.items c.from-at.result c.tell.new.self)) stamp
-    (done_here (GivesTo (One c.args.number) input) c.args.number c.from-at.result c.self.inside.places.items c.args.self.now c.index_mut.result.now c.tell.new.self
-    (given_not c.args.number input) c.self.view_is h c.self.invariant.different (given_is c.args.number input c.index_mut.result.now c.tell.new.self h.number c.tell.ensures))
+    let input = Msg c.args.message.now c.stamp-stamp.result c.args.tick in
+    subst (λ (t : Stamp). AllZip (GivesTo (One c.args.number) (Msg c.args.message.now t c.args.tick)) c.args.self.now (slice_set c.self.inside.places.items c.from-at.result c.hear.new.self)) stamp
+    (done_here (GivesTo (One c.args.number) input) c.args.number c.from-at.result c.self.inside.places.items c.args.self.now c.index_mut.result.now c.hear.new.self
+    (given_not c.args.number input) c.self.view_is h c.self.invariant.different (given_is c.args.number input c.index_mut.result.now c.hear.new.self h.number c.hear.ensures))
 
 pub returns-clause-fits : goal.returns-clause-fits
 returns-clause-fits c =
@@ -64,9 +64,9 @@ returns-clause-measured c =
     let at = subst (IsWhere c.args.number (numbers_in c.args.self.now)) c.in_ok-at.was c.at.ensures in
     let h : Here c.args.number c.self.inside.places.items c.from-at.result c.index_mut.result.now =
     here c.args.number c.in_ok-at.field-0 c.from-at.result c.self.inside.places.items c.args.self.now c.index_mut.result.now (ap numbers_in c.self.view_is) c.from-at.ensures at c.index_mut.ensures.value in
-    let after : List PortPlace = slice_set c.self.inside.places.items c.from-at.result c.tell.new.self in
+    let after : List PortPlace = slice_set c.self.inside.places.items c.from-at.result c.hear.new.self in
     let same : numbers_in after ≡ numbers_in c.self.inside.places.items =
-    numbers_here c.args.number c.from-at.result c.self.inside.places.items c.index_mut.result.now c.tell.new.self h c.tell.ensures.number in
+    numbers_here c.args.number c.from-at.result c.self.inside.places.items c.index_mut.result.now c.hear.new.self h c.hear.ensures.number in
     let read : Here c.args.number after c.from-at.result c.index-2.result.now =
     here c.args.number c.in_ok-at.field-0 c.from-at.result after c.args.self.now c.index-2.result.now (same ∙ ap numbers_in c.self.view_is) c.from-at.ensures at c.index-2.ensures in
     sym (ap measured_in (place_here c.args.number c.from-at.result after after c.index-2.result.now refl read (subst AreDifferent (sym same) c.self.invariant.different)))
