@@ -2,7 +2,7 @@ use Rattle.std.proofs.Common.{◌≡◌, ap₂, sym, subst, ◌/◌, ◌<◌, �
 use Rattle.std.proofs.lemmas.Int.{ints}
 use Rattle.wrp_base.specs.Clock.{period_of}
 use Rattle.wrp_sim.proofs.Numbers.{few_periods}
-use Rattle.wrp_sim.proofs.sim.pure.periods.Goals as goal
+use Rattle.wrp_sim.proofs.sim.numbers.periods.Goals as goal
 
 pub overflow_cast-result : goal.overflow_cast-result
 overflow_cast-result c =
