@@ -13,7 +13,7 @@ use Rattle.wrp_trace.specs.Events.{EventsCanCome, event_read}
 use Rattle.wrp_course.specs.Dropped.{DropsLeaveACount, LeavesACount, given_at}
 use Rattle.wrp_course.specs.declared.event.Event.{Event}
 use Rattle.wrp_course.specs.EventAt.{IsEventOf}
-use Rattle.wrp_truth.proofs.Runs.Suffixes.{run_before}
+use Rattle.wrp_bound_laws.proofs.Runs.Suffixes.{run_before}
 use Rattle.wrp_course.specs.Given.{Given}
 use Rattle.wrp_course.specs.Run.{Happened, steps_at, world_after}
 use Rattle.wrp_course.specs.Runs.{AllEvents, IsNetwork, IsRun}

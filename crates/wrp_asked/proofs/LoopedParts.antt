@@ -31,7 +31,7 @@ use Rattle.wrp_asked.specs.Input.{network_text}
 use Rattle.wrp_sim.specs.Keeps.{Between, Comes, IsDriven, LeftOut, Silent, Turn, events_of}
 use Rattle.wrp_scene.specs.Scenario.{SceneAt}
 use Rattle.wrp_sim.specs.SimAt.{SimAt}
-use Rattle.wrp_truth.specs.Chains.{AllFit}
+use Rattle.wrp_bound_laws.specs.Chains.{AllFit}
 use Rattle.wrp_world.specs.EventHolds.{LinksHoldInRuns, TracksHoldInRuns}
 
 -- What comes between the events of the simulator

@@ -41,7 +41,7 @@ use Rattle.wrp_asked.proofs.TakenLines.{HoldsInFront, taken_lines}
 use Rattle.wrp_asked.proofs.TrackTold.{line_true}
 use Rattle.wrp_loop.specs.Loops.{plan_of}
 use Rattle.wrp_simulate.specs.SimText.{is_printed, sim_lines}
-use Rattle.wrp_truth.specs.Bounds.{IsTrueOutput, IsTrueStep}
+use Rattle.wrp_bound_laws.specs.Bounds.{IsTrueOutput, IsTrueStep}
 use Rattle.wrp_trace.specs.EventPrinting.{event_text}
 use Rattle.wrp_asked.proofs.LastLines.{after_tells, all_told, last_tells, link_tells, loop_tells, names_tells, none_tells}
 

@@ -37,7 +37,7 @@ use Rattle.wrp_loop.specs.Loops.{plan_of}
 use Rattle.wrp_trace.specs.EventPrinting.{event_text}
 use Rattle.wrp_trace.specs.Events.{EventsCanCome, event_read}
 use Rattle.wrp_trace.proofs.EventsReadBack.{events_back}
-use Rattle.wrp_truth.specs.Chains.{AllFit}
+use Rattle.wrp_bound_laws.specs.Chains.{AllFit}
 use Rattle.wrp_audit.specs.Audited.{AreEvents}
 use Rattle.wrp_network_world.specs.NetworkSetting.{IsSettingOf}
 use Rattle.wrp_audit.specs.AuditLaws.{OneAudit}
