@@ -9,8 +9,7 @@ use Rattle.wrp_network.specs.declared.configuration.NetCfg.{NetCfg}
 use Rattle.wrp_network.specs.declared.network.LinkCfg.{LinkCfg}
 use Rattle.wrp_network.specs.declared.network.NodeCfg.{NodeCfg}
 use Rattle.wrp_base.specs.Link.{other_of}
-use Rattle.wrp_config.specs.Config.{bare_link, bare_node}
-use Rattle.wrp_config.specs.Same.{bare_cfg}
+use Rattle.wrp_config.specs.Same.{bare_link, bare_node, bare_cfg}
 use Rattle.wrp_course.specs.declared.event.Event.{Event}
 use Rattle.wrp_course.specs.declared.event.Event.TheVariants.{Pass, Tick, Sample, Depart, Arrive, Deliver, Noise, Down, Up, Cut, Join}
 use Rattle.wrp_course.specs.Run.{Happened, world_after}

@@ -5,7 +5,7 @@ use Rattle.std.proofs.lemmas.List.{reverse-append}
 use Rattle.std.specs.List.{AllByRecursion}
 use Rattle.wrp_network.specs.declared.configuration.NetCfg.{NetCfg}
 use Rattle.wrp_base.proofs.Lists.{all_weaker}
-use Rattle.wrp_config.specs.Same.{ReadingIsAccepted}
+use Rattle.wrp_network_text.specs.SameAnswer.{ReadingIsAccepted}
 use Rattle.wrp_node.specs.declared.interface.Input.{Input}
 use Rattle.wrp_node.specs.declared.interface.Input.TheVariants.{Tick, Sample, Frame, Sent, Carrier, Reset}
 use Rattle.wrp_node.specs.declared.interface.Output.{Output}
@@ -13,7 +13,7 @@ use Rattle.wrp_trace.specs.Events.{EventsCanCome, event_read}
 use Rattle.wrp_course.specs.Dropped.{DropsLeaveACount, LeavesACount, given_at}
 use Rattle.wrp_course.specs.declared.event.Event.{Event}
 use Rattle.wrp_course.specs.EventAt.{IsEventOf}
-use Rattle.wrp_truth.proofs.Runs.Suffixes.{run_before}
+use Rattle.wrp_bound_laws.proofs.Runs.Suffixes.{run_before}
 use Rattle.wrp_course.specs.Given.{Given}
 use Rattle.wrp_course.specs.Run.{Happened, steps_at, world_after}
 use Rattle.wrp_course.specs.Runs.{AllEvents, IsNetwork, IsRun}

@@ -2,8 +2,8 @@
 use Rattle.std.proofs.Common.{List, [], ◌∷◌}
 use Rattle.wrp_course.specs.Run.{Happened}
 use Rattle.wrp_course.specs.Setting.{Setting}
-use Rattle.wrp_truth.specs.Bounds.{TrueRun}
-use Rattle.wrp_truth.specs.Hops.{SiblingsAgree, TracksAddUp, TracksFollow}
+use Rattle.wrp_bound_laws.specs.Bounds.{TrueRun}
+use Rattle.wrp_bound_laws.specs.Hops.{SiblingsAgree, TracksAddUp, TracksFollow}
 use Rattle.wrp_asked.specs.HopByHop.{HopByHop, HopsAreKept}
 use Rattle.wrp_asked.proofs.TracksHold.{RunsNear, runs_before, true_run}
 

@@ -7,7 +7,7 @@ use Rattle.wrp_base.specs.declared.link.Role.TheVariants.{Master, Slave}
 use Rattle.wrp_network.specs.declared.network.LinkCfg.{LinkCfg}
 use Rattle.wrp_network.specs.Network.{End, HasLinkRanges}
 use Rattle.wrp_base.specs.Link.{other_of}
-use Rattle.wrp_config.specs.Same.{ReadingIsAccepted}
+use Rattle.wrp_network_text.specs.SameAnswer.{ReadingIsAccepted}
 use Rattle.wrp_course.specs.declared.event.Event.{Event}
 use Rattle.wrp_course.specs.declared.event.Event.TheVariants.{Deliver}
 use Rattle.wrp_course.specs.Run.{AllAccepted, Happened, world_after}
@@ -31,7 +31,7 @@ use Rattle.wrp_asked.specs.Input.{network_text}
 use Rattle.wrp_sim.specs.Keeps.{Between, Comes, IsDriven, LeftOut, Silent, Turn, events_of}
 use Rattle.wrp_scene.specs.Scenario.{SceneAt}
 use Rattle.wrp_sim.specs.SimAt.{SimAt}
-use Rattle.wrp_truth.specs.Chains.{AllFit}
+use Rattle.wrp_bound_laws.specs.Chains.{AllFit}
 use Rattle.wrp_world.specs.EventHolds.{LinksHoldInRuns, TracksHoldInRuns}
 
 -- What comes between the events of the simulator

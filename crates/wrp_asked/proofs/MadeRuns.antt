@@ -1,6 +1,6 @@
 -- The events that a simulation makes are a run of its network.
 use Rattle.std.proofs.Common.{ℕ, List}
-use Rattle.wrp_config.specs.Same.{ReadingIsAccepted}
+use Rattle.wrp_network_text.specs.SameAnswer.{ReadingIsAccepted}
 use Rattle.wrp_sim.specs.Keeps.{SimRunsAreRuns}
 use Rattle.wrp_course.specs.Run.{Happened}
 use Rattle.wrp_course.specs.Runs.{IsNetwork, IsRun}

@@ -2,7 +2,7 @@
 use Rattle.std.proofs.Common.{◌≡◌, ℕ, None, Some, Ok, List}
 use Rattle.wrp_audit.specs.AuditLaws.{OneAudit}
 use Rattle.wrp_config.specs.Names.{node_named}
-use Rattle.wrp_config.specs.Reading.{IsReadingOf}
+use Rattle.wrp_network_text.specs.Reading.{IsReadingOf}
 use Rattle.wrp_config.specs.declared.network.Network.{Network}
 use Rattle.wrp_io.specs.declared.link.LinkCall.{LinkCall}
 use Rattle.wrp_node.specs.OneRun.{OneNode, OneRun}

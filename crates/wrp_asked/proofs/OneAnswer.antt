@@ -4,7 +4,7 @@ use Rattle.std.specs.Io.KnownBytes.{Appends}
 use Rattle.std.proofs.lemmas.List.{append_cancel_left}
 use Rattle.std.proofs.lemmas.Option.{same_Some}
 use Rattle.wrp_base.specs.declared.fault.ConfFault.TheVariants.{Fault}
-use Rattle.wrp_config.proofs.OneReading.{one_reading}
+use Rattle.wrp_network_text.proofs.OneReading.{one_reading}
 use Rattle.wrp_commands.specs.declared.alone.Alone.{Alone}
 use Rattle.wrp_commands.specs.Request.{CommandLine}
 use Rattle.wrp_records.specs.declared.status.Status.{Status}

@@ -2,9 +2,9 @@
 use Rattle.std.proofs.Common.{◌≡◌, ◌∙◌, ap, ap₂, sym, ℕ, None, Some, Ok, List}
 use Rattle.std.proofs.lemmas.Option.{same_Some}
 use Rattle.wrp_network.specs.declared.configuration.NetCfg.{NetCfg}
-use Rattle.wrp_config.proofs.OneReading.{one_reading}
+use Rattle.wrp_network_text.proofs.OneReading.{one_reading}
 use Rattle.wrp_config.specs.Names.{node_named}
-use Rattle.wrp_config.specs.Reading.{IsReadingOf}
+use Rattle.wrp_network_text.specs.Reading.{IsReadingOf}
 use Rattle.wrp_config.specs.declared.network.Network.{Network}
 use Rattle.wrp_course.specs.Setting.{Setting}
 use Rattle.wrp_network_world.specs.NetworkSetting.{IsSettingOf, setting_at}

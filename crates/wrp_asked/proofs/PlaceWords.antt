@@ -23,10 +23,10 @@ use Rattle.wrp_caldb.specs.declared.place.At.{At}
 use Rattle.wrp_caldb.specs.declared.place.At.TheVariants as tables
 use Rattle.wrp_caldb.specs.declared.row.Code.{Code}
 use Rattle.wrp_caldb.specs.declared.row.Code.TheVariants as co
-use Rattle.wrp_config.specs.Keys.{clock_in, link_key, network_in, network_key, network_keys, node_key, node_keys}
-use Rattle.wrp_config.specs.Links.{Context, LinkKey, has_link_fault, link_keys, place_in_link_table}
-use Rattle.wrp_config.specs.Places.{context_of, first_place, no_node, place_at_links, place_at_nodes, place_in_head, place_in_link, place_in_links, place_in_node, place_in_nodes, place_of_identity, place_of_port, has_text_of, repeats_lower, repeats_upper}
-use Rattle.wrp_config.specs.Reading.{IsReadingOf, clash_text}
+use Rattle.wrp_network_text.specs.Keys.{clock_in, link_key, network_in, network_key, network_keys, node_key, node_keys}
+use Rattle.wrp_network_text.specs.Links.{Context, LinkKey, has_link_fault, link_keys, place_in_link_table}
+use Rattle.wrp_network_text.specs.Places.{context_of, first_place, no_node, place_at_links, place_at_nodes, place_in_head, place_in_link, place_in_links, place_in_node, place_in_nodes, place_of_identity, place_of_port, has_text_of, repeats_lower, repeats_upper}
+use Rattle.wrp_network_text.specs.Reading.{IsReadingOf, clash_text}
 use Rattle.wrp_records.specs.Words.{IsWord, is_word_octet}
 use Rattle.wrp_records.proofs.WordLemmas.{decimal_word, signed_word}
 use Rattle.wrp_asked.proofs.InputLines.{word_append}

@@ -4,7 +4,7 @@ use Rattle.std.proofs.Common.{◌≡◌, ◌⊎◌, inl, inr, refl, sym, ap, ◌
 use Rattle.std.specs.List.{AllByRecursion}
 use Rattle.wrp_base.proofs.Lists.{all_weaker}
 use Rattle.wrp_config.specs.Accepted.{HasNames}
-use Rattle.wrp_config.specs.Same.{ReadingIsAccepted}
+use Rattle.wrp_network_text.specs.SameAnswer.{ReadingIsAccepted}
 use Rattle.wrp_course.specs.declared.event.Event.{Event}
 use Rattle.wrp_course.specs.EventAt.{IsEventOf}
 use Rattle.wrp_course.specs.Given.{NodeStepAt}
@@ -41,7 +41,7 @@ use Rattle.wrp_asked.proofs.TakenLines.{HoldsInFront, taken_lines}
 use Rattle.wrp_asked.proofs.TrackTold.{line_true}
 use Rattle.wrp_loop.specs.Loops.{plan_of}
 use Rattle.wrp_simulate.specs.SimText.{is_printed, sim_lines}
-use Rattle.wrp_truth.specs.Bounds.{IsTrueOutput, IsTrueStep}
+use Rattle.wrp_bound_laws.specs.Bounds.{IsTrueOutput, IsTrueStep}
 use Rattle.wrp_trace.specs.EventPrinting.{event_text}
 use Rattle.wrp_asked.proofs.LastLines.{after_tells, all_told, last_tells, link_tells, loop_tells, names_tells, none_tells}
 

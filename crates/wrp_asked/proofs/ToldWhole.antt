@@ -37,7 +37,7 @@ use Rattle.wrp_trace.proofs.EventsReadBack.{events_back}
 use Rattle.wrp_trace.specs.EventPrinting.{event_text}
 use Rattle.wrp_trace.specs.Events.{event_of, event_read}
 use Rattle.wrp_trace.specs.LineSetting.{has_port, line_setting_in}
-use Rattle.wrp_truth.specs.Chains.{AllFit}
+use Rattle.wrp_bound_laws.specs.Chains.{AllFit}
 
 -- Events
 

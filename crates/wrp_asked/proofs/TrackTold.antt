@@ -11,7 +11,7 @@ use Rattle.wrp_records.specs.Words.{line_of, IsWord}
 use Rattle.wrp_node.specs.declared.interface.Output.{Output}
 use Rattle.wrp_node.specs.declared.interface.Output.TheVariants.{Send, Step, Dac, Report}
 use Rattle.wrp_node.specs.declared.interface.Report.TheVariants.{Link, Servo, Track}
-use Rattle.wrp_truth.specs.Bounds.{IsTrueOutput, IsTrueReport, IsTrueStep}
+use Rattle.wrp_bound_laws.specs.Bounds.{IsTrueOutput, IsTrueReport, IsTrueStep}
 use Rattle.wrp_course.specs.Given.{NodeStepAt}
 use Rattle.wrp_course.specs.Setting.{Setting}
 use Rattle.wrp_course.specs.WorldAt.{WorldAt}

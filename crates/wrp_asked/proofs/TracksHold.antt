@@ -1,17 +1,17 @@
 -- What is told of TRACK is true in every audit and in every simulation, by the law of every run.
 use Rattle.std.proofs.Common.{◌<◌, ◌^◌, ℕ, Bool, List, [], ◌∷◌, length, arith}
 use Rattle.std.specs.List.{AllByRecursion}
-use Rattle.wrp_config.specs.Same.{ReadingIsAccepted}
+use Rattle.wrp_network_text.specs.SameAnswer.{ReadingIsAccepted}
 use Rattle.wrp_node.specs.declared.interface.Output.{Output}
 use Rattle.wrp_sim.specs.Keeps.{SimRunsAreRuns}
 use Rattle.wrp_trace.specs.Events.{EventsCanCome}
-use Rattle.wrp_truth.specs.Bounds.{TrueRun}
-use Rattle.wrp_truth.specs.Chains.{AllFit}
+use Rattle.wrp_bound_laws.specs.Bounds.{TrueRun}
+use Rattle.wrp_bound_laws.specs.Chains.{AllFit}
 use Rattle.wrp_course.specs.EventAt.{FitsEvent}
 use Rattle.wrp_course.specs.Run.{Happened, IsAnswered, steps_at, world_after}
 use Rattle.wrp_course.specs.Runs.{IsRun}
 use Rattle.wrp_course.specs.Setting.{Setting}
-use Rattle.wrp_truth.proofs.Runs.Suffixes.{run_before}
+use Rattle.wrp_bound_laws.proofs.Runs.Suffixes.{run_before}
 use Rattle.wrp_world.specs.EventHolds.{TracksHold, TracksHoldInRuns}
 use Rattle.wrp_network_world.specs.NetworkSetting.{IsSettingOf, answers_in, laws_in}
 use Rattle.wrp_commands.specs.Request.{CommandLine}

@@ -4,7 +4,7 @@ use Rattle.wrp_base.specs.declared.fault.ConfFault.{ConfFault}
 use Rattle.wrp_calib.specs.LinesTold.{SayTruly, TellsSo}
 use Rattle.wrp_calib.specs.Truth.{Delays}
 use Rattle.wrp_caldb.specs.Database.{Database}
-use Rattle.wrp_caldb.specs.Reading.{IsReadingOf}
+use Rattle.wrp_calibration_text.specs.Reading.{IsReadingOf}
 use Rattle.wrp_l1sync.specs.LineAnswers.{ShowsBy, ShowsFront, ShowsWhole}
 use Rattle.wrp_migrate.specs.Laws.{IsKept}
 use Rattle.wrp_plain.specs.declared.event.PlainEvent.{PlainEvent}

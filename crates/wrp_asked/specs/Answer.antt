@@ -5,7 +5,7 @@
 use Rattle.std.specs.Prelude.{◌≡◌, ◌⊎◌, ℕ, ◌<◌, ◌≤◌, None, Some, Ok, List, [], ◌++◌, length, take}
 use Rattle.wrp_config.specs.declared.network.Network.{Network}
 use Rattle.wrp_config.specs.Names.{node_named}
-use Rattle.wrp_config.specs.Reading.{IsReadingOf}
+use Rattle.wrp_network_text.specs.Reading.{IsReadingOf}
 use Rattle.wrp_course.specs.Setting.{Setting}
 use Rattle.wrp_io.specs.declared.link.LinkCall.{LinkCall}
 use Rattle.wrp_records.specs.declared.status.Status.{Status}

@@ -35,7 +35,7 @@ use Rattle.wrp_replay.specs.Replays.{IsRefusedBy}
 use Rattle.wrp_records.specs.Stream.{IsTooLarge, large_line}
 use Rattle.wrp_asked.specs.Tasks.{Audit, Emit, AsksFor}
 use Rattle.wrp_asked.specs.TrackLines.{TracksAreWithin}
-use Rattle.wrp_truth.specs.Chains.{AllFit}
+use Rattle.wrp_bound_laws.specs.Chains.{AllFit}
 
 -- Which events came
 

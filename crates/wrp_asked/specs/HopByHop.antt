@@ -8,7 +8,7 @@ use Rattle.wrp_network.specs.Network.{link_above}
 use Rattle.wrp_bounds.specs.Bounds.{hop_of}
 use Rattle.wrp_course.specs.Run.{Happened, world_after}
 use Rattle.wrp_course.specs.Setting.{Setting}
-use Rattle.wrp_truth.specs.Hops.{FollowsWithin, IsTracking, TracksUp, hops_on}
+use Rattle.wrp_bound_laws.specs.Hops.{FollowsWithin, IsTracking, TracksUp, hops_on}
 use Rattle.wrp_asked.specs.EventLines.{AtEachEvent}
 
 -- after these events: a node in TRACK is within its hop of its parent, which is up, and is the grandmaster, or in TRACK or HOLDOVER;

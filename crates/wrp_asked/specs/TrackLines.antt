@@ -7,7 +7,7 @@ use Rattle.std.specs.List.{AllByRecursion}
 use Rattle.wrp_network.specs.Network.{name_at}
 use Rattle.wrp_bounds.specs.Bounds.{path_of}
 use Rattle.wrp_records.specs.Words.{line_of, IsWord}
-use Rattle.wrp_truth.specs.Bounds.{AllAreBounded, IsTrueReport, IsTrueStep}
+use Rattle.wrp_bound_laws.specs.Bounds.{AllAreBounded, IsTrueReport, IsTrueStep}
 use Rattle.wrp_course.specs.Run.{Happened, steps_at, world_after}
 use Rattle.wrp_course.specs.Setting.{Setting}
 use Rattle.wrp_course.specs.WorldAt.{WorldAt}

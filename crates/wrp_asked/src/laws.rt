@@ -8,14 +8,14 @@ ghost use Rattle.wrp_asked.specs.ReportLines.{LinkOnReportsHaveLines, TrackRepor
 ghost use Rattle.wrp_asked.specs.SimHeadline.{MadeEventsCarryParts};
 
 use wrp_audit::one_audit;
-use wrp_config::reading_is_accepted;
-use wrp_lookback::drops_only_count;
+use wrp_bound_laws::hops_are_kept;
+use wrp_lookback_laws::drops_only_count;
 use wrp_loop::{loop_is_audited, loop_keeps_the_bounds};
+use wrp_network_text::reading_is_accepted;
 use wrp_node::one_run;
 use wrp_servo::told_last;
 use wrp_sim::simulator_keeps_the_bounds;
 use wrp_trace::events_can_come;
-use wrp_truth::hops_are_kept;
 use wrp_world::events_hold;
 
 /// For what is asked, an input and the calls of a link one status and one text are due.

@@ -2,8 +2,7 @@
 use Rattle.std.proofs.Common.{◌≡◌, ◌∙◌, refl, ap, ap₂, sym, subst, ℕ, pos, ◌==◌, ◌++◌, if◌then◌else◌, Some, List, [], ◌∷◌, map, flat_map, arith}
 use Rattle.std.proofs.lemmas.List.{length-map}
 use Rattle.wrp_network.specs.Network.{node_count}
-use Rattle.wrp_config.specs.Config.{bare_node}
-use Rattle.wrp_config.specs.Same.{bare_cfg}
+use Rattle.wrp_config.specs.Same.{bare_node, bare_cfg}
 use Rattle.wrp_lines.specs.Lines.{output_line_of}
 use Rattle.wrp_node.specs.NodeRun.{AllSaid}
 use Rattle.wrp_trace.specs.LineSetting.{line_setting_in}

@@ -1,18 +1,19 @@
 -- The database of a calibration text: what it lists, and what a name and two wavelengths find in it
 -- (this project's profile).
-use Rattle.std.specs.Prelude.{◌==◌, ◌&&◌, ◌∷◌, [], ℕ, ℤ, pos, unsigned_abs, List, Option, Some, None, option_map, option_and_then, unwrap_or, codes, if◌then◌else◌}
+use Rattle.std.specs.Prelude.{◌≡◌, ◌==◌, ◌&&◌, ◌∷◌, [], ℕ, ℤ, pos, unsigned_abs, List, Option, Some, None, option_map, option_and_then, unwrap_or, codes, if◌then◌else◌}
 use Rattle.std.specs.Option.{option_or}
 use Rattle.std.specs.List.{find, filter_map}
 use Rattle.toml.specs.Data.{Data, Members, as_table, get_member}
 use Rattle.wrp_base.specs.declared.link.Module.{Module}
 use Rattle.wrp_base.specs.declared.link.Fibre.{Fibre}
-use Rattle.wrp_caldb.specs.Calibration.{tx_key, rx_key, transition_key, module_err_key, tx_nm_key, rx_nm_key, kappa_key, fibre_err_key, table_err_key, version_of}
+use Rattle.wrp_caldb.specs.Calibration.{tx_key, rx_key, transition_key, module_err_key, tx_nm_key, rx_nm_key, kappa_key, fibre_err_key, table_err_key, version_of, IsAccepted}
 use Rattle.wrp_caldb.specs.Key.{Key}
 use Rattle.wrp_caldb.specs.Name.{same_name, is_name}
 use Rattle.wrp_caldb.specs.Points.{stored_points}
 use Rattle.wrp_caldb.specs.Repeats.{name_in}
 use Rattle.wrp_caldb.specs.Rows.{number_in, tables_at}
 use Rattle.wrp_caldb.specs.declared.database.Entry.{Entry}
+use Rattle.wrp_caldb.specs.declared.keys.Others.{Others}
 use Rattle.wrp_caldb.specs.declared.keys.Version.{Version}
 use Rattle.wrp_caldb.specs.declared.keys.Version.TheVariants.{One, Two}
 
@@ -135,3 +136,7 @@ database_of doc = record {
   modules = each_table (module_of (version_of doc)) (tables_at (codes "module") doc);
   fibres = each_table fibre_of (tables_at (codes "fibre") doc);
 }
+
+-- the database is that of an accepted document
+abbrev pub IsListed : Database → Type 0
+IsListed db = (others : Others) × (doc : Members) × IsAccepted others doc × (db ≡ database_of doc)

@@ -1,12 +1,9 @@
 pub mod Calibration
 pub mod Database
 pub mod Key
-pub mod Met
 pub mod Name
 pub mod Place
 pub mod Points
-pub mod Reading
 pub mod Refusal
 pub mod Repeats
 pub mod Rows
-pub mod Text

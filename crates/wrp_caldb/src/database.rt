@@ -3,13 +3,15 @@
 ghost use Rattle.std.specs.Prelude.{◌≡◌, ◌≤◌, option_map, Some, None, IfSome};
 ghost use Rattle.std.specs.List.{find};
 ghost use Rattle.wrp_caldb.specs.Name.{same_name};
-ghost use Rattle.wrp_caldb.specs.Database.{TableAt, entry_at, delays_at, module_at, fibre_at, table_at};
-ghost use Rattle.wrp_caldb.specs.Text.{IsListed};
+ghost use Rattle.wrp_caldb.specs.Database.{TableAt, entry_at, delays_at, module_at, fibre_at, table_at, IsListed};
 
-use crate::points::Points;
+use arrayvec::ArrayVec;
 use std::marker::Model;
 use wrp_base::{Fibre, Module};
 use wrp_network::Name;
+
+/// The points of a stored delay law: two-way delays and one-way delays down, in tau.
+pub type Points = ArrayVec<(i64, i64), 32>;
 
 /// The numbers of a module for a pair of wavelengths.
 #[derive(Clone, Copy, Debug, Default, PartialEq, Eq)]
@@ -38,6 +40,13 @@ impl Model for ListedModule {
 }
 
 impl ListedModule {
+    /// A module of this name with these entries.
+    pub fn new(name: Name, entries: Vec<Entry>) -> ListedModule
+        ensures { result ≡ record { name = name.bytes; entries = entries.items } }
+    {
+        ListedModule { name, entries }
+    }
+
     /// The module's name.
     pub fn name(&self) -> &str
         ensures { result.now ≡ self.now.name }
@@ -95,6 +104,16 @@ impl Model for StoredTable {
     ghost invariant = { λ t. t.err ≤ 1_000_000_000 };
 }
 
+impl StoredTable {
+    /// The points of a law, each within `err` of it, in tau: 0 to `10^9`.
+    pub fn new(points: Points, err: u64) -> StoredTable
+        requires { err ≤ 1_000_000_000 }
+        ensures { result ≡ record { points = points.items; err = err } }
+    {
+        StoredTable { points, err }
+    }
+}
+
 /// A listed fibre.
 #[derive(Debug, Drop)]
 pub struct ListedFibre {
@@ -112,6 +131,14 @@ impl Model for ListedFibre {
 }
 
 impl ListedFibre {
+    /// A fibre of this name, with its asymmetry and error, and the points of its stored law where it
+    /// has one.
+    pub fn new(name: Name, fibre: Fibre, table: Option<StoredTable>) -> ListedFibre
+        ensures { result ≡ record { name = name.bytes; fibre = fibre; table = table } }
+    {
+        ListedFibre { name, fibre, table }
+    }
+
     /// The fibre's name.
     pub fn name(&self) -> &str
         ensures { result.now ≡ self.now.name }
@@ -140,7 +167,7 @@ impl ListedFibre {
 }
 
 /// The modules and the fibres that a table lists, which may not be accepted: what is no number
-/// of its row stands as 0, and what is no name as none.
+/// of its row is 0 here, and what is no name is an empty name.
 #[derive(Debug, Drop)]
 pub struct Lists {
     pub(crate) modules: Vec<ListedModule>,
@@ -162,8 +189,7 @@ pub struct CalDb {
 }
 
 impl Model for CalDb {
-    ghost use Rattle.wrp_caldb.specs.Database.{Database};
-    ghost use Rattle.wrp_caldb.specs.Text.{IsListed};
+    ghost use Rattle.wrp_caldb.specs.Database.{Database, IsListed};
 
     ghost Value = { Database };
 
@@ -187,6 +213,13 @@ fn fibre_named<'a>(fibres: &'a [ListedFibre], name: &str) -> Option<&'a ListedFi
 }
 
 impl Lists {
+    /// These modules and these fibres, in the order of a text.
+    pub fn new(modules: Vec<ListedModule>, fibres: Vec<ListedFibre>) -> Lists
+        ensures { result ≡ record { modules = modules.items; fibres = fibres.items } }
+    {
+        Lists { modules, fibres }
+    }
+
     /// The listed modules in the order of the text.
     pub fn modules(&self) -> &[ListedModule]
         ensures { result.now ≡ self.now.modules }
@@ -245,9 +278,10 @@ impl CalDb {
         CalDb { lists }
     }
 
-    /// What is listed, by itself.
+    /// What is listed, by itself. It is what an accepted text lists.
     pub fn lists(&self) -> &Lists
-        ensures { result.now ≡ self.now }
+        ensures value { result.now ≡ self.now }
+        ensures listed { IsListed self.now }
     {
         &self.lists
     }

@@ -1,7 +1,10 @@
 //! Names of nodes, links, modules and fibres.
-ghost use Rattle.std.specs.Prelude.{◌≡◌, ◌&&◌, length, nat_le};
+ghost use Rattle.std.specs.Prelude.{◌≡◌, ◌&&◌, Some, length, nat_le};
 ghost use Rattle.std.specs.List.{list_all};
+ghost use Rattle.wrp_caldb.specs.Database.{name_or_none};
 ghost use Rattle.wrp_caldb.specs.Name.{is_name_octet, is_name, is_module_name, is_hex_digit, is_identity};
+
+use wrp_network::Name;
 
 // A letter, a digit or `_`.
 fn is_name_octet(octet: u8) -> bool
@@ -16,7 +19,7 @@ fn are_name_octets(octets: &[u8]) -> bool
     octets.iter().all(|octet| is_name_octet(*octet))
 }
 
-// Whether these octets may stand behind a name's first letter.
+// Whether these octets may follow a name's first letter.
 fn ends_name(rest: &[u8]) -> bool
     ensures { result ≡ (list_all is_name_octet rest.now && nat_le (length rest.now) 15) }
 {
@@ -34,7 +37,18 @@ pub fn is_name(text: &str) -> bool
     }
 }
 
-/// Whether a module may have this name: any but `unlisted`, which stands for a module of no entry.
+/// A text as a name; an empty name where it is none.
+pub fn name_of(text: &str) -> Name
+    ensures { result.bytes ≡ name_or_none (Some text.now) }
+{
+    let mut name = Name::new();
+    if is_name(text) {
+        name.push_str(text);
+    }
+    name
+}
+
+/// Whether a module may have this name: any but `unlisted`, which means a module without an entry.
 pub fn is_module_name(text: &str) -> bool
     ensures { result ≡ is_module_name text.now }
 {

@@ -18,22 +18,22 @@ use Rattle.wrp_node.specs.Unbroken.{ChainIsLocked}
 use Rattle.wrp_servo.specs.Laws.{NoStepInTrack}
 use Rattle.wrp_servo.specs.Sampling.{is_holdover}
 use Rattle.wrp_servo.specs.Table.{is_track}
-use Rattle.wrp_tracking.proofs.Histories.{slow_since}
+use Rattle.wrp_tracking_laws.proofs.Histories.{slow_since}
 use Rattle.wrp_course.specs.Premises.{rate_of}
 use Rattle.wrp_course.specs.Run.{Happened, world_after}
 use Rattle.wrp_course.specs.Runs.{IsNetwork, IsRun}
 use Rattle.wrp_course.specs.Setting.{Setting, node_setting_of, of_node}
 use Rattle.wrp_course.specs.WorldAt.{WorldAt}
-use Rattle.wrp_truth.specs.Holdovers.{IsHeld}
-use Rattle.wrp_truth.specs.Moments.{AtEach}
-use Rattle.wrp_truth.proofs.Hops.HeldRuns.{held_core, is_inside, lasts}
-use Rattle.wrp_truth.proofs.Hops.HopsUp.{top_state}
-use Rattle.wrp_truth.proofs.Motion.Moving.{chain_rate, clock_slow, kept_by}
-use Rattle.wrp_truth.proofs.Motion.NodeSteps.{still_in_track}
-use Rattle.wrp_truth.proofs.Motion.Slow.{as_slow}
-use Rattle.wrp_truth.proofs.Runs.Suffixes.{run_before}
-use Rattle.wrp_truth.proofs.Sources.HeldCalls.{HoldLaws, OnHold, on_hold}
-use Rattle.wrp_truth.proofs.Sources.Parents.{has_servo, with_servo}
+use Rattle.wrp_bound_laws.specs.Holdovers.{IsHeld}
+use Rattle.wrp_bound_laws.specs.Moments.{AtEach}
+use Rattle.wrp_bound_laws.proofs.Hops.HeldRuns.{held_core, is_inside, lasts}
+use Rattle.wrp_bound_laws.proofs.Hops.HopsUp.{top_state}
+use Rattle.wrp_bound_laws.proofs.Motion.Moving.{chain_rate, clock_slow, kept_by}
+use Rattle.wrp_bound_laws.proofs.Motion.NodeSteps.{still_in_track}
+use Rattle.wrp_bound_laws.proofs.Motion.Slow.{as_slow}
+use Rattle.wrp_bound_laws.proofs.Runs.Suffixes.{run_before}
+use Rattle.wrp_bound_laws.proofs.Sources.HeldCalls.{HoldLaws, OnHold, on_hold}
+use Rattle.wrp_bound_laws.proofs.Sources.Parents.{has_servo, with_servo}
 use Rattle.wrp_clock_laws.specs.Steady.{ClocksRunForward, HoldoverKeepsHeld, IsSteady, IsUpIn, MovesWithin, SteadyKeepsRate, TrackKeepsSlew}
 
 -- the laws that this stands on

@@ -4,12 +4,12 @@ use Rattle.std.specs.Prelude.{◌≡◌, ◌⊎◌, ◌≤ℤ◌, ℕ, max, true
 use Rattle.wrp_base.specs.declared.link.ServoState.{ServoState}
 use Rattle.wrp_base.specs.declared.link.ServoState.TheVariants.{Track, Holdover}
 use Rattle.wrp_node.specs.NodeAt.{state_of}
-use Rattle.wrp_tracking.specs.History.{IsSlow}
+use Rattle.wrp_tracking_laws.specs.History.{IsSlow}
 use Rattle.wrp_course.specs.Run.{Happened, world_after}
 use Rattle.wrp_course.specs.Runs.{IsRun}
 use Rattle.wrp_course.specs.Setting.{Setting, node_setting_of, of_node}
 use Rattle.wrp_course.specs.WorldAt.{reading}
-use Rattle.wrp_truth.specs.Moments.{AtEach}
+use Rattle.wrp_bound_laws.specs.Moments.{AtEach}
 
 -- after these events a node is up, and its servo is in this state
 pub record IsUpIn (state : ServoState) (s : Setting) (n : ℕ) (events : List Happened) : Type 0 where

@@ -2,7 +2,7 @@
 use Rattle.std.proofs.Common.{◌≡◌, inl, inr, refl, sym, subst, ℕ, ◌+◌, ◌-◌, ◌*◌, ◌<◌, ◌≤◌, max, ℤ, Bool, true, false, [], arith}
 use Rattle.wrp_base.specs.declared.link.Role.{Role}
 use Rattle.wrp_bounds.specs.Times.{longest_tick}
-use Rattle.wrp_handshake.specs.Ends.{OutlivesFrames}
+use Rattle.wrp_handshake_laws.specs.Ends.{OutlivesFrames}
 use Rattle.wrp_link_up_laws.specs.Pace.{Outlasts, OutlastsInTurn, patience}
 use Rattle.wrp_link_up_laws.proofs.Ports.{BothHold, Given}
 use Rattle.wrp_link_up_laws.proofs.Proved.{lock_from, wait_from, waits_by}

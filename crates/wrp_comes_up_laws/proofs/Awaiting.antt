@@ -10,7 +10,7 @@ use Rattle.wrp_base.specs.declared.message.PtpMsg.{PtpMsg}
 use Rattle.wrp_base.proofs.Naturals.{turn_mod}
 use Rattle.wrp_bounds.specs.Times.{longest_tick, shortest_tick}
 use Rattle.wrp_frame.specs.declared.fault.FrameFault.{FrameFault}
-use Rattle.wrp_handshake.specs.Laws.{IsAwake}
+use Rattle.wrp_handshake_laws.specs.Laws.{IsAwake}
 use Rattle.wrp_link_up_laws.specs.Pace.{IsReady}
 use Rattle.wrp_node.specs.declared.interface.NodeSet.{NodeSet}
 use Rattle.wrp_port.specs.Hearing.{is_open}
@@ -24,15 +24,15 @@ use Rattle.wrp_course.specs.RunLaws.{TickOrStart}
 use Rattle.wrp_course.specs.Runs.{IsNetwork, IsRun}
 use Rattle.wrp_course.specs.Setting.{link_of, node_setting_of}
 use Rattle.wrp_course.specs.WorldAt.{WorldAt, has_carrier}
-use Rattle.wrp_truth.proofs.Nodes.Inputs.{IsNoTickOf, tick_or_not}
-use Rattle.wrp_truth.proofs.Sources.Parents.{ticked_node}
+use Rattle.wrp_bound_laws.proofs.Nodes.Inputs.{IsNoTickOf, tick_or_not}
+use Rattle.wrp_bound_laws.proofs.Sources.Parents.{ticked_node}
 use Rattle.wrp_comes_up_laws.specs.Laws.{announces_each}
 use Rattle.wrp_comes_up_laws.specs.Served.{HandsOffer, IsOwed, IsOfferUnheard, Beginning, ends_of, events_of, world_of}
 use Rattle.wrp_comes_up_laws.proofs.Counts.{CountsAt, calm_counts, tick_counts}
 use Rattle.wrp_comes_up_laws.proofs.Events.{as_came, up_no_end}
 use Rattle.wrp_comes_up_laws.proofs.Grounds.{Laws}
 use Rattle.wrp_comes_up_laws.proofs.Offers.{OfferNow, awake_open, is_due_now, line_now, master_of, offer_put, open_now}
-use Rattle.wrp_truth.proofs.Runs.PortRoles.{set_at}
+use Rattle.wrp_bound_laws.proofs.Runs.PortRoles.{set_at}
 
 -- What is awaited
 

@@ -15,10 +15,10 @@ use Rattle.wrp_course.specs.Run.{Happened, world_after}
 use Rattle.wrp_course.specs.Runs.{IsNetwork}
 use Rattle.wrp_course.specs.Setting.{Setting, node_setting_of}
 use Rattle.wrp_course.specs.WorldAt.{WorldAt}
-use Rattle.wrp_truth.proofs.Nodes.Inputs.{IsNoTick, IsNoTickOf, no_tick_to, node_kept}
-use Rattle.wrp_truth.proofs.Schedules.ScheduleLinks.{IsNoTickThere, was_open}
-use Rattle.wrp_truth.proofs.Schedules.ScheduleSince.{PortOf, set_at, some_quiet, ticked_told, told_in, told_then}
-use Rattle.wrp_truth.proofs.Schedules.ScheduleTold.{IsAside, KeptIn, aside_kept, told_before, told_kept}
+use Rattle.wrp_bound_laws.proofs.Nodes.Inputs.{IsNoTick, IsNoTickOf, no_tick_to, node_kept}
+use Rattle.wrp_bound_laws.proofs.Schedules.ScheduleLinks.{IsNoTickThere, was_open}
+use Rattle.wrp_bound_laws.proofs.Schedules.ScheduleSince.{PortOf, set_at, some_quiet, ticked_told, told_in, told_then}
+use Rattle.wrp_bound_laws.proofs.Schedules.ScheduleTold.{IsAside, KeptIn, aside_kept, told_before, told_kept}
 
 -- so many ticks since quiet time ended, where the port is open
 abbrev pub Counts : PortSetting → ℕ → List PortIn → Type 0

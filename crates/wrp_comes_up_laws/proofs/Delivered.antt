@@ -15,7 +15,7 @@ use Rattle.wrp_base.specs.Link.{other_of}
 use Rattle.wrp_base.proofs.Naturals.{eq_self}
 use Rattle.wrp_bounds.specs.Times.{frame_life}
 use Rattle.wrp_frame.specs.SentOctets.{octets_of}
-use Rattle.wrp_handshake.specs.Ends.{Port, BothPorts, Sending as Message, Hears, IsAmong, IsNoCarrier, MayHear, stamped, end_of as port_of}
+use Rattle.wrp_handshake_laws.specs.Ends.{Port, BothPorts, Sending as Message, Hears, IsAmong, IsNoCarrier, MayHear, stamped, end_of as port_of}
 use Rattle.wrp_link.specs.declared.interface.LinkIn.{LinkIn}
 use Rattle.wrp_link.specs.declared.interface.LinkIn.TheVariants.{Msg, Announce, Tick as LinkTick, CarrierDown, CarrierUp}
 use Rattle.wrp_link.specs.Rows.{offers, row_of}
@@ -43,7 +43,7 @@ use Rattle.wrp_comes_up_laws.proofs.Grounds.{Laws}
 use Rattle.wrp_comes_up_laws.proofs.Heard.{IsFrameIn, body_frame, closed_sends, either_heard, frame_input, frame_nothing, input_if, input_message, input_offer, message_input, offer_input}
 use Rattle.wrp_comes_up_laws.proofs.PutOut.{PutNow, puts_out}
 use Rattle.wrp_comes_up_laws.proofs.Seen.{Seen, dmin_of, ends_hear, ends_stay, life_of, not_ticked, nothing_seen, port_in, port_is_at}
-use Rattle.wrp_truth.proofs.Runs.PortRoles.{set_at}
+use Rattle.wrp_bound_laws.proofs.Runs.PortRoles.{set_at}
 use Rattle.wrp_comes_up_laws.proofs.Senders.{IsOfPort}
 
 -- Frames that were put out

@@ -17,7 +17,7 @@ use Rattle.wrp_base.proofs.Booleans.{not_both}
 use Rattle.wrp_base.proofs.Naturals.{eq_self}
 use Rattle.wrp_bounds.specs.Times.{shortest_tick}
 use Rattle.wrp_frame.specs.declared.fault.FrameFault.{FrameFault}
-use Rattle.wrp_handshake.specs.Ends.{Port, Change, Passes, Hears, IsAmong, changed, after_input, stamped}
+use Rattle.wrp_handshake_laws.specs.Ends.{Port, Change, Passes, Hears, IsAmong, changed, after_input, stamped}
 use Rattle.wrp_link.specs.declared.interface.LinkIn.{LinkIn}
 use Rattle.wrp_link.specs.declared.interface.LinkIn.TheVariants.{Tick as LinkTick}
 use Rattle.wrp_link.specs.Rows.{row_of}

@@ -1,6 +1,6 @@
 -- The laws that those of this crate stand on.
 use Rattle.wrp_config.specs.Laws.{ChildIsDeeper}
-use Rattle.wrp_handshake.specs.Laws.{SlaveOnWithItsMaster}
+use Rattle.wrp_handshake_laws.specs.Laws.{SlaveOnWithItsMaster}
 use Rattle.wrp_node.specs.LinkNews.{StepGivesLinks}
 use Rattle.wrp_node.specs.Sends.{SignalsAreOfLink}
 use Rattle.wrp_node.specs.SetLaws.{EndsAreSet}

@@ -21,7 +21,7 @@ use Rattle.wrp_base.proofs.Naturals.{eq_self}
 use Rattle.wrp_data.specs.declared.datasets.PortDs.{PortDs}
 use Rattle.wrp_data.specs.declared.reason.Reason.{Reason}
 use Rattle.wrp_data.specs.declared.reason.Reason.TheVariants.{Domain, Stranger, NotForUs, Quiet as QuietReason}
-use Rattle.wrp_handshake.specs.Ends.{Port, Sending as Message, after_input, mover_of, port_by, ticked_by}
+use Rattle.wrp_handshake_laws.specs.Ends.{Port, Sending as Message, after_input, mover_of, port_by, ticked_by}
 use Rattle.wrp_link.specs.declared.interface.LinkIn.{LinkIn}
 use Rattle.wrp_link.specs.declared.interface.LinkIn.TheVariants.{Msg, Announce, Tick, CarrierDown, CarrierUp}
 use Rattle.wrp_link.specs.LinkAt.{LinkAt}
@@ -41,7 +41,7 @@ use Rattle.wrp_course.specs.Setting.{Setting, end_of, link_of, node_setting_of}
 use Rattle.wrp_course.proofs.LinkPorts.{ds_at}
 use Rattle.wrp_course.proofs.RunPorts.{port_by_news, port_is}
 use Rattle.wrp_comes_up_laws.specs.Served.{offers_in}
-use Rattle.wrp_truth.proofs.Runs.PortRoles.{role_is, set_at}
+use Rattle.wrp_bound_laws.proofs.Runs.PortRoles.{role_is, set_at}
 use Rattle.wrp_comes_up_laws.proofs.Senders.{IsOfPort, IsToPeer}
 
 -- In quiet time

@@ -14,7 +14,7 @@ use Rattle.wrp_base.specs.Link.{other_of}
 use Rattle.wrp_base.proofs.Booleans.{not_both}
 use Rattle.wrp_base.proofs.Naturals.{eq_self}
 use Rattle.wrp_frame.specs.declared.fault.FrameFault.{FrameFault}
-use Rattle.wrp_handshake.specs.Ends.{Port, BothPorts, Change, Starts, Lights, changed, ends_after, after_input, marked}
+use Rattle.wrp_handshake_laws.specs.Ends.{Port, BothPorts, Change, Starts, Lights, changed, ends_after, after_input, marked}
 use Rattle.wrp_link.specs.declared.interface.LinkIn.TheVariants as link_in
 use Rattle.wrp_link.specs.LinkAt.{LinkAt, new_link}
 use Rattle.wrp_node.specs.declared.interface.Input.TheVariants.{Carrier, Reset}

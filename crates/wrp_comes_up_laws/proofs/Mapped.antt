@@ -8,9 +8,9 @@ use Rattle.wrp_base.specs.declared.message.WrMsg.{WrMsg}
 use Rattle.wrp_network.specs.declared.network.LinkCfg.{LinkCfg}
 use Rattle.wrp_network.specs.Network.{node_count}
 use Rattle.wrp_bounds.specs.Times.{longest_tick}
-use Rattle.wrp_handshake.specs.Ends.{Port, BothPorts, Change, Hears, AllMayCome, MayCome, changed, ends_after, end_of as port_of}
-use Rattle.wrp_handshake.specs.Laws.{IsAwake}
-use Rattle.wrp_handshake.proofs.Changes.{EndsKeep, all_keep}
+use Rattle.wrp_handshake_laws.specs.Ends.{Port, BothPorts, Change, Hears, AllMayCome, MayCome, changed, ends_after, end_of as port_of}
+use Rattle.wrp_handshake_laws.specs.Laws.{IsAwake}
+use Rattle.wrp_handshake_laws.proofs.Changes.{EndsKeep, all_keep}
 use Rattle.wrp_link.specs.declared.interface.LinkIn.TheVariants.{Msg, Announce, Tick as LinkTick}
 use Rattle.wrp_link.specs.Rows.{offers}
 use Rattle.wrp_link_up_laws.specs.Pace as alone
@@ -26,9 +26,9 @@ use Rattle.wrp_course.specs.Run.{Happened, world_after}
 use Rattle.wrp_course.specs.Runs.{IsNetwork, IsRun, WasPutOut}
 use Rattle.wrp_course.specs.Setting.{Setting, end_of, link_of, node_setting_of}
 use Rattle.wrp_course.specs.WorldAt.{Sending, WorldAt, has_carrier}
-use Rattle.wrp_truth.proofs.Frames.Sendings.{WasPut, was_put}
-use Rattle.wrp_truth.proofs.Motion.OnTime.{on_time, ticked_past}
-use Rattle.wrp_truth.proofs.Schedules.ScheduleSince.{set_at, told_in}
+use Rattle.wrp_bound_laws.proofs.Frames.Sendings.{WasPut, was_put}
+use Rattle.wrp_bound_laws.proofs.Motion.OnTime.{on_time, ticked_past}
+use Rattle.wrp_bound_laws.proofs.Schedules.ScheduleSince.{set_at, told_in}
 use Rattle.wrp_comes_up_laws.specs.Laws.{pace_of}
 use Rattle.wrp_comes_up_laws.specs.Served.{Throughout, InTurn, IsServed, IsUnheard, IsUnlocked, Beginning, LongestWaits, ends_of, events_of, offers_in, world_of}
 use Rattle.wrp_comes_up_laws.proofs.Asked.{Form, given_of}

@@ -12,8 +12,8 @@ use Rattle.wrp_network.specs.declared.network.LinkCfg.{LinkCfg}
 use Rattle.wrp_data.specs.declared.datasets.PortDs.{PortDs}
 use Rattle.wrp_data.specs.Announce.{bit_where}
 use Rattle.wrp_frame.specs.declared.fault.FrameFault.{FrameFault}
-use Rattle.wrp_handshake.specs.Ends.{Port}
-use Rattle.wrp_handshake.specs.Laws.{IsAwake}
+use Rattle.wrp_handshake_laws.specs.Ends.{Port}
+use Rattle.wrp_handshake_laws.specs.Laws.{IsAwake}
 use Rattle.wrp_link.specs.declared.interface.LinkIn.TheVariants as link_in
 use Rattle.wrp_link.specs.LinkAt.{LinkAt}
 use Rattle.wrp_link.specs.Rows.{offers}
@@ -38,16 +38,16 @@ use Rattle.wrp_course.specs.Moved.{moved}
 use Rattle.wrp_course.specs.Runs.{IsNetwork, WasPutOut}
 use Rattle.wrp_course.specs.Setting.{Setting, end_of, link_of, node_setting_of}
 use Rattle.wrp_course.specs.WorldAt.{Sending, WorldAt}
-use Rattle.wrp_truth.proofs.Frames.PutOut.{none_put, tick_put, tick_puts}
-use Rattle.wrp_truth.proofs.Nodes.Inputs.{IsNoTick, no_tick_to, tick_or_not}
-use Rattle.wrp_truth.proofs.Nodes.StepSends.{ScheduledAll, SentBy, step_each}
-use Rattle.wrp_truth.proofs.Schedules.ScheduleSince.{PortOf, told_then}
-use Rattle.wrp_truth.proofs.Sources.Parents.{ticked_node}
+use Rattle.wrp_bound_laws.proofs.Frames.PutOut.{none_put, tick_put, tick_puts}
+use Rattle.wrp_bound_laws.proofs.Nodes.Inputs.{IsNoTick, no_tick_to, tick_or_not}
+use Rattle.wrp_bound_laws.proofs.Nodes.StepSends.{ScheduledAll, SentBy, step_each}
+use Rattle.wrp_bound_laws.proofs.Schedules.ScheduleSince.{PortOf, told_then}
+use Rattle.wrp_bound_laws.proofs.Sources.Parents.{ticked_node}
 use Rattle.wrp_comes_up_laws.specs.Served.{offers_in}
 use Rattle.wrp_comes_up_laws.proofs.Counts.{CountsAt, OpensAt, open_then}
 use Rattle.wrp_comes_up_laws.proofs.Grounds.{Laws}
 use Rattle.wrp_comes_up_laws.proofs.Heard.{ds_is}
-use Rattle.wrp_truth.proofs.Runs.PortRoles.{role_is, set_at}
+use Rattle.wrp_bound_laws.proofs.Runs.PortRoles.{role_is, set_at}
 
 -- Awake and open
 

@@ -7,8 +7,8 @@ use Rattle.wrp_base.specs.declared.link.Role.TheVariants.{Slave}
 use Rattle.wrp_base.specs.declared.message.WrMsg.{WrMsg}
 use Rattle.wrp_base.specs.declared.message.WrMsg.TheVariants.{Calibrate as CALIBRATE, Calibrated as CALIBRATED}
 use Rattle.wrp_base.specs.Link.{other_of}
-use Rattle.wrp_handshake.specs.Ends.{BothPorts, Change, Passes, Hears, Starts, Lights, changed, ends_after}
-use Rattle.wrp_handshake.specs.Laws.{IsAwake}
+use Rattle.wrp_handshake_laws.specs.Ends.{BothPorts, Change, Passes, Hears, Starts, Lights, changed, ends_after}
+use Rattle.wrp_handshake_laws.specs.Laws.{IsAwake}
 use Rattle.wrp_link.specs.declared.interface.LinkIn.TheVariants.{Msg, Announce, Tick as LinkTick}
 use Rattle.wrp_link.specs.Rows.{offers}
 use Rattle.wrp_link_up_laws.specs.Pace as alone

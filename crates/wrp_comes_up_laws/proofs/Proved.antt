@@ -7,8 +7,8 @@ use Rattle.wrp_base.specs.declared.link.Role.{Role}
 use Rattle.wrp_base.specs.declared.link.Role.TheVariants.{Master, Slave}
 use Rattle.wrp_network.specs.declared.network.LinkCfg.{LinkCfg}
 use Rattle.wrp_data.specs.declared.datasets.PortDs.{PortDs}
-use Rattle.wrp_handshake.specs.Ends.{AllMayCome, CanBe, Change, BothPorts, Hears, Lights, MayCome, Passes, Starts, changed, ends_after, new_ends}
-use Rattle.wrp_handshake.proofs.Changes.{EndsKeep, all_keep, start_keeps}
+use Rattle.wrp_handshake_laws.specs.Ends.{AllMayCome, CanBe, Change, BothPorts, Hears, Lights, MayCome, Passes, Starts, changed, ends_after, new_ends}
+use Rattle.wrp_handshake_laws.proofs.Changes.{EndsKeep, all_keep, start_keeps}
 use Rattle.wrp_link.specs.declared.interface.LinkSet.{LinkSet}
 use Rattle.wrp_link.specs.Rows.{row_of}
 use Rattle.wrp_link.proofs.Runs.{by_row_set}
@@ -36,7 +36,7 @@ use Rattle.wrp_comes_up_laws.proofs.Heard.{ds_is}
 use Rattle.wrp_comes_up_laws.proofs.Lit.{AllFree, Came, IsFree, came}
 use Rattle.wrp_comes_up_laws.proofs.Mapped.{AllOffered, Mapped, mapped, put_past}
 use Rattle.wrp_comes_up_laws.proofs.Seen.{dmin_of, life_of}
-use Rattle.wrp_truth.proofs.Runs.PortRoles.{set_at}
+use Rattle.wrp_bound_laws.proofs.Runs.PortRoles.{set_at}
 
 -- Lists of changes
 

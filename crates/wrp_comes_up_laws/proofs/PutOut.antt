@@ -5,7 +5,7 @@ use Rattle.wrp_base.specs.declared.link.Role.{Role}
 use Rattle.wrp_base.specs.declared.message.PtpMsg.{PtpMsg}
 use Rattle.wrp_base.specs.declared.message.WrMsg.{WrMsg}
 use Rattle.wrp_network.specs.declared.network.LinkCfg.{LinkCfg}
-use Rattle.wrp_handshake.specs.Ends.{Sending as Message, IsAmong, stamped}
+use Rattle.wrp_handshake_laws.specs.Ends.{Sending as Message, IsAmong, stamped}
 use Rattle.wrp_link.specs.declared.interface.LinkIn.{LinkIn}
 use Rattle.wrp_link.specs.LinkAt.{LinkAt}
 use Rattle.wrp_link.specs.Rows.{row_of}

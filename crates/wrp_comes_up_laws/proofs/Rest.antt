@@ -5,8 +5,8 @@ use Rattle.std.proofs.Math.Nat.{le-max_left, le-max_right}
 use Rattle.wrp_base.specs.declared.link.LinkState.TheVariants.{LinkOn}
 use Rattle.wrp_base.specs.declared.link.Role.{Role}
 use Rattle.wrp_base.specs.declared.link.Role.TheVariants.{Master, Slave}
-use Rattle.wrp_handshake.specs.Ends.{BothPorts, CanBe, ends_after, new_ends, end_of as port_of}
-use Rattle.wrp_handshake.proofs.Changes.{EndsKeep, all_keep, start_keeps}
+use Rattle.wrp_handshake_laws.specs.Ends.{BothPorts, CanBe, ends_after, new_ends, end_of as port_of}
+use Rattle.wrp_handshake_laws.proofs.Changes.{EndsKeep, all_keep, start_keeps}
 use Rattle.wrp_link.specs.declared.interface.LinkSet.{LinkSet}
 use Rattle.wrp_link_up_laws.specs.Laws.{IsUp as LinkIsUp}
 use Rattle.wrp_link_up_laws.specs.Pace.{AllInTurn, Outlasts, OutlastsInTurn, Pace, rest_of}

@@ -6,7 +6,7 @@ use Rattle.wrp_base.specs.declared.message.WrMsg.{WrMsg}
 use Rattle.wrp_network.specs.declared.network.LinkCfg.{LinkCfg}
 use Rattle.wrp_base.specs.Link.{other_of}
 use Rattle.wrp_bounds.specs.Times.{shortest_tick, frame_life}
-use Rattle.wrp_handshake.specs.Ends.{Port, BothPorts, Sending as Message, Change, Passes, Hears, Starts, Lights, MayCome, changed, after_input, end_of as port_of}
+use Rattle.wrp_handshake_laws.specs.Ends.{Port, BothPorts, Sending as Message, Change, Passes, Hears, Starts, Lights, MayCome, changed, after_input, end_of as port_of}
 use Rattle.wrp_link.specs.declared.interface.LinkIn.{LinkIn}
 use Rattle.wrp_link.specs.declared.interface.LinkIn.TheVariants.{Msg, Announce, Tick as LinkTick}
 use Rattle.wrp_link.specs.Rows.{offers}

@@ -16,8 +16,8 @@ use Rattle.wrp_port.specs.declared.line.Rest.{Rest}
 use Rattle.wrp_port.specs.declared.setting.Setting.{Setting as PortSetting}
 use Rattle.wrp_port.specs.LineAfter.{ticked}
 use Rattle.wrp_port.specs.Messages.{announce_of, follow_up_of, request_of, response_of, sync_of}
-use Rattle.wrp_truth.proofs.Nodes.StepSends.{ScheduledAll, SentBy, step_each}
-use Rattle.wrp_truth.proofs.Runs.PortRoles.{set_at}
+use Rattle.wrp_bound_laws.proofs.Nodes.StepSends.{ScheduledAll, SentBy, step_each}
+use Rattle.wrp_bound_laws.proofs.Runs.PortRoles.{set_at}
 use Rattle.wrp_course.specs.Given.{Given, given_by, gives, gives_all, sending, step_of, taken_of}
 use Rattle.wrp_course.specs.Moved.{moved}
 use Rattle.wrp_course.specs.Run.{Happened, world_after}

@@ -4,8 +4,8 @@ use Rattle.std.specs.Prelude.{◌≡◌, ◌⊎◌, ℕ, ◌≤◌, max, ℤ, po
 use Rattle.wrp_base.specs.declared.link.Role.{Role}
 use Rattle.wrp_base.specs.declared.link.Role.TheVariants.{Master, Slave}
 use Rattle.wrp_bounds.specs.Times.{frame_life, longest_tick, shortest_tick}
-use Rattle.wrp_handshake.specs.Ends.{end_of as port_of}
-use Rattle.wrp_handshake.specs.Laws.{IsAwake}
+use Rattle.wrp_handshake_laws.specs.Ends.{end_of as port_of}
+use Rattle.wrp_handshake_laws.specs.Laws.{IsAwake}
 use Rattle.wrp_link_up_laws.specs.Pace.{Outlasts, OutlastsInTurn, rest_of}
 use Rattle.wrp_link_up_laws.specs.Rest.{IsResting, time_from_rest, time_from_rest_in_turn}
 use Rattle.wrp_course.specs.Run.{Happened}

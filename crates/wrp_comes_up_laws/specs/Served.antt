@@ -9,7 +9,7 @@ use Rattle.wrp_base.specs.declared.message.WrMsg.{WrMsg}
 use Rattle.wrp_base.specs.declared.message.WrMsg.TheVariants.{Calibrate as CALIBRATE, Calibrated as CALIBRATED}
 use Rattle.wrp_network.specs.declared.network.LinkCfg.{LinkCfg}
 use Rattle.wrp_base.specs.Link.{other_of}
-use Rattle.wrp_handshake.specs.Ends.{BothPorts}
+use Rattle.wrp_handshake_laws.specs.Ends.{BothPorts}
 use Rattle.wrp_link.specs.Rows.{offers}
 use Rattle.wrp_node.specs.NodeAt.{locked_of}
 use Rattle.wrp_node.specs.NodeStep.{servo_ticked}

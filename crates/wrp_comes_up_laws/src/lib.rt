@@ -9,7 +9,7 @@ use wrp_config::child_is_deeper;
 use wrp_course::{
     frames_were_put_out, link_on_in_the_same_handshake, ticks_are_apart, time_never_falls,
 };
-use wrp_handshake::slave_on_with_its_master;
+use wrp_handshake_laws::slave_on_with_its_master;
 use wrp_link_up_laws::{
     comes_up, comes_up_from_rest, comes_up_from_rest_in_turn, comes_up_in_turn,
 };

@@ -1,9 +1,8 @@
--- The tree and the inequalities of a network do not see the unused room of its names.
-use Rattle.std.proofs.Common.{◌≡◌, ◌+◌, ◌==◌, ℕ, zero, suc, List, [], ◌∷◌, Bool, true, false, Option, None, Some, cond, map, option_map, refl, ap, ap₂, ◌∙◌}
+-- The links above a node and the inequalities of a network do not see the unused room of its names.
+use Rattle.std.proofs.Common.{◌≡◌, ◌+◌, ◌==◌, ℕ, List, [], ◌∷◌, Bool, true, false, Option, None, Some, cond, map, option_map, refl, ap, ap₂, ◌∙◌}
 use Rattle.std.proofs.lemmas.List.{length-map}
-use Rattle.std.proofs.lemmas.List.Folds.{fold-map}
 use Rattle.std.proofs.lemmas.Option.{slice_get-map}
-use Rattle.std.specs.Prelude.{slice_get, count_by, option_and_then}
+use Rattle.std.specs.Prelude.{slice_get, option_and_then}
 use Rattle.std.specs.List.{find}
 use Rattle.std.specs.Option.{is_some}
 use Rattle.wrp_network.specs.declared.configuration.NetCfg.{NetCfg}
@@ -12,11 +11,7 @@ use Rattle.wrp_network.specs.declared.network.LinkCfg.{LinkCfg}
 use Rattle.wrp_network.specs.Network.{link_above, node_count}
 use Rattle.wrp_bounds.specs.Bounds.{numbers_between, numbers_over, numbers_of}
 use Rattle.wrp_bounds.specs.Inequalities.{quiet_time, holdover_time, phase_room, phase_room_of, phase_rooms_from, tick_times, holdoff_time, flight_time, lock_counts, id_reuse, port_delays, inequalities}
-use Rattle.wrp_config.specs.Config.{bare_node, bare_link}
-use Rattle.wrp_config.specs.Same.{bare_cfg}
-use Rattle.wrp_config.specs.Tree.{is_root, some_below, ended, one_above, depth_within, is_over_8, has_fault}
-use Rattle.wrp_config.specs.declared.tree.TreeFault.{TreeFault}
-use Rattle.wrp_config.specs.declared.tree.TreeFault.TheVariants.{NotATree, TwoSlaves, TooDeep}
+use Rattle.wrp_config.specs.Same.{bare_node, bare_link, bare_cfg}
 
 -- Links
 
@@ -34,11 +29,7 @@ find_above n (link ∷ links) =
 pub above_bare : (cfg : NetCfg) (n : ℕ) → link_above (bare_cfg cfg) n ≡ option_map bare_link (link_above cfg n)
 above_bare cfg n = find_above n cfg.links.items
 
-count_below : (n : ℕ) (links : List LinkCfg)
-    → count_by (λ link. link.lower == n) (map bare_link links) ≡ count_by (λ link. link.lower == n) links
-count_below n links = fold-map (λ count (link : LinkCfg). count + cond (link.lower == n) 1 0) bare_link 0 links
-
--- The tree
+-- Nodes, and whether a link is above them
 
 pub count_bare : (cfg : NetCfg) → node_count (bare_cfg cfg) ≡ node_count cfg
 count_bare cfg = length-map cfg.nodes.items bare_node
@@ -49,34 +40,6 @@ some_bare f (Some x) = refl
 
 pub above_some : (cfg : NetCfg) (n : ℕ) → is_some (link_above (bare_cfg cfg) n) ≡ is_some (link_above cfg n)
 above_some cfg n = ap is_some (above_bare cfg n) ∙ some_bare bare_link (link_above cfg n)
-
-root_bare : (cfg : NetCfg) (n : ℕ) → is_root (bare_cfg cfg) n ≡ is_root cfg n
-root_bare cfg n = rw (above_some cfg n) refl
-
-roots_bare : (cfg : NetCfg) (n : ℕ) → some_below (is_root (bare_cfg cfg)) n ≡ some_below (is_root cfg) n
-roots_bare cfg zero = refl
-roots_bare cfg (suc n) = rw (roots_bare cfg n, root_bare cfg n) refl
-
-ended_bare : (above : Option LinkCfg) → ended (option_map bare_link above) ≡ ended above
-ended_bare None = refl
-ended_bare (Some link) = refl
-
-one_above_bare : (walk own : ℕ → Option ℕ) → ((n : ℕ) → walk n ≡ own n) → (above : Option LinkCfg)
-    → one_above walk (option_map bare_link above) ≡ one_above own above
-one_above_bare walk own same None = refl
-one_above_bare walk own same (Some link) = ap (option_map (λ depth. depth + 1)) (same link.upper)
-
-depth_bare : (most : ℕ) (cfg : NetCfg) (n : ℕ) → depth_within most (bare_cfg cfg) n ≡ depth_within most cfg n
-unfolding depth_within
-depth_bare zero cfg n = ap ended (above_bare cfg n) ∙ ended_bare (link_above cfg n)
-depth_bare (suc most) cfg n =
-    ap (one_above (depth_within most (bare_cfg cfg))) (above_bare cfg n)
-    ∙ one_above_bare (depth_within most (bare_cfg cfg)) (depth_within most cfg) (λ m. depth_bare most cfg m) (link_above cfg n)
-
-pub fault_bare : (cfg : NetCfg) (fault : TreeFault) (n : ℕ) → has_fault (bare_cfg cfg) fault n ≡ has_fault cfg fault n
-fault_bare cfg NotATree n = rw (root_bare cfg n, roots_bare cfg n, depth_bare 64 cfg n) refl
-fault_bare cfg TwoSlaves n = rw (count_below n cfg.links.items) refl
-fault_bare cfg TooDeep n = ap is_over_8 (depth_bare 64 cfg n)
 
 -- The inequalities
 

@@ -1,11 +1,12 @@
--- Lists without repeats, what is found in a list, and the greatest of a list.
-use Rattle.std.proofs.Common.{◌≡◌, ◌≢◌, ◌<◌, ◌≤◌, ◌+◌, ℕ, zero, suc, List, [], ◌∷◌, Bool, true, false, None, Some, map, max, fold, length, take, get_or, cond, refl, sym, ap, ap₂, ◌∙◌, inl, inr, arith}
-use Rattle.std.proofs.lemmas.Bool.{cases_lt, or_parts}
+-- Lists without repeats, what is found in a list, the greatest of a list, and names that are the same.
+use Rattle.std.proofs.Common.{◌≡◌, ◌≢◌, ◌<◌, ◌≤◌, ◌+◌, ◌==◌, ℕ, zero, suc, List, [], ◌∷◌, Bool, true, false, None, Some, map, max, fold, length, take, get_or, cond, refl, sym, ap, ap₂, ◌∙◌, inl, inr, arith, eq-eqb}
+use Rattle.std.proofs.lemmas.Bool.{and_parts, cases_lt, eqb-true, or_parts}
 use Rattle.std.proofs.lemmas.Option.{slice_get-get_or}
 use Rattle.std.proofs.lemmas.List.Quantifiers.{position-Some}
 use Rattle.std.specs.Prelude.{slice_get, nat_lt, not}
-use Rattle.std.specs.List.{list_any, position, position_or_len}
-use Rattle.wrp_base.proofs.Lists.{length_map}
+use Rattle.std.specs.List.{AllByRecursion, find, list_any, position, position_or_len}
+use Rattle.wrp_base.proofs.Lists.{first_passed, length_map}
+use Rattle.wrp_caldb.specs.Name.{same_name}
 use Rattle.wrp_config.specs.Accepted.{HasNoRepeat, greatest}
 
 -- what stands in a list that is made of another
@@ -107,3 +108,21 @@ first-map p f (x ∷ xs) = not_before (not (p (f x))) _ _ (first-map p f xs)
 
 pub position-map : {X Y : Type 0} (p : Y → Bool) (f : X → Y) (xs : List X) → position p (map f xs) ≡ position (λ x. p (f x)) xs
 position-map p f xs = ap₂ (λ k n. cond (nat_lt k n) (Some k) None) (first-map p f xs) (length_map f xs)
+
+-- nothing found: each fails the test
+pub none_at : {X : Type 0} (p : X → Bool) (xs : List X) → find p xs ≡ None → AllByRecursion (λ x. p x ≡ false) xs
+none_at p [] e = tt
+none_at p (x ∷ xs) e = let parts = first_passed p x xs e in (parts.0, none_at p xs parts.1)
+
+-- names of the same octets
+pub same_refl : (a : List ℕ) → same_name a a ≡ true
+same_refl [] = refl
+same_refl (c ∷ cs) = rw (eq-eqb c c refl, same_refl cs) refl
+
+pub same_is : (a b : List ℕ) → same_name a b ≡ true → a ≡ b
+same_is [] [] e = refl
+same_is [] (d ∷ ds) e = cc e
+same_is (c ∷ cs) [] e = cc e
+same_is (c ∷ cs) (d ∷ ds) e =
+    let parts = and_parts (c == d) (same_name cs ds) e in
+    ap₂ (λ x xs. x ∷ xs) (eqb-true c d parts.0) (same_is cs ds parts.1)

@@ -13,7 +13,10 @@ use Rattle.wrp_config.specs.Accepted.{HasNoRepeat, IsAccepted}
 use Rattle.wrp_config.specs.Laws.{IsAbove, OneGrandmaster, ChildIsDeeper, PortIsOfOneLink, ModulesAreListed}
 use Rattle.wrp_config.specs.Names.{is_upper_end, is_lower_end, has_port, link_at, pair_of}
 use Rattle.wrp_config.proofs.Ports.{upper_of, lower_of}
-use Rattle.wrp_config.proofs.TreeLaws.{or_true}
+
+pub or_true : (b : Bool) → (b || true) ≡ true
+or_true true = refl
+or_true false = refl
 
 -- Walks
 

@@ -1,12 +1,4 @@
 pub mod Accepted
-pub mod Config
-pub mod Ends
-pub mod Greatest
-pub mod Keys
 pub mod Laws
-pub mod Links
 pub mod Names
-pub mod Places
-pub mod Reading
 pub mod Same
-pub mod Tree

@@ -1,12 +1,27 @@
--- One text has one answer (this project's profile).
-use Rattle.std.specs.Prelude.{◌≡◌, ℕ, List, map, Result, Ok, Err}
+-- When two networks are the same: what stands in the unused room of a name is no part of it (this project's profile).
+use Rattle.std.specs.Prelude.{◌≡◌, ℕ, List, [], map}
+use Rattle.arrayvec.specs.ArrayString.{ArrayString}
 use Rattle.wrp_network.specs.declared.configuration.NetCfg.{NetCfg}
-use Rattle.wrp_base.specs.declared.fault.ConfFault.{ConfFault}
-use Rattle.wrp_base.specs.declared.fault.ConfFault.TheVariants.{Fault, Memory}
-use Rattle.wrp_config.specs.Accepted.{IsAccepted}
-use Rattle.wrp_config.specs.Config.{bare_node, bare_link}
-use Rattle.wrp_config.specs.Reading.{IsReadingOf}
+use Rattle.wrp_network.specs.declared.network.NodeCfg.{NodeCfg}
+use Rattle.wrp_network.specs.declared.network.LinkCfg.{LinkCfg}
 use Rattle.wrp_config.specs.declared.network.Network.{Network}
+
+-- a name of these octets
+abbrev pub bare : List ℕ → ArrayString
+bare octets = record { bytes = octets; spare = [] }
+
+-- a node without the unused room of its name
+abbrev pub bare_node : NodeCfg → NodeCfg
+bare_node node = record node { name = bare node.name.bytes }
+
+-- a link without the unused room of its names
+abbrev pub bare_link : LinkCfg → LinkCfg
+bare_link link = record link {
+  name = bare link.name.bytes;
+  upper_module = bare link.upper_module.bytes;
+  lower_module = bare link.lower_module.bytes;
+  fibre = bare link.fibre.bytes;
+}
 
 -- the numbers, nodes and links of a network, without the unused room of their names
 abbrev pub bare_cfg : NetCfg → NetCfg
@@ -18,41 +33,3 @@ bare_cfg cfg = record cfg {
 -- the same network, whatever stands in the unused room of its names
 abbrev pub IsSameNetwork : Network → Network → Type 0
 IsSameNetwork a b = (bare_cfg a.cfg ≡ bare_cfg b.cfg) × (a.db ≡ b.db)
-
--- the same answer: a network and a fault never are; want of memory may come in place of any
-abbrev pub IsSameAnswer : Result Network ConfFault → Result Network ConfFault → Type 0
-IsSameAnswer (Ok a) (Ok b) = IsSameNetwork a b
-IsSameAnswer (Ok a) (Err (Fault number place)) = ⊥
-IsSameAnswer (Ok a) (Err (Memory e)) = Unit {0}
-IsSameAnswer (Err (Fault number place)) (Ok b) = ⊥
-IsSameAnswer (Err (Fault number place)) (Err (Fault other there)) =
-    (number ≡ other) × (place.bytes ≡ there.bytes)
-IsSameAnswer (Err (Fault number place)) (Err (Memory e)) = Unit {0}
-IsSameAnswer (Err (Memory e)) other = Unit {0}
-
--- each answer for the octets is the same as this one
-abbrev pub IsOnlyReadingOf : List ℕ → Result Network ConfFault → Type 0
-IsOnlyReadingOf octets answer =
-    (other : Result Network ConfFault) → IsReadingOf octets other → IsSameAnswer other answer
-
--- two answers for one text are the same
-abbrev pub OneReading : Type 0
-OneReading =
-    (octets : List ℕ) (one other : Result Network ConfFault) →
-    IsReadingOf octets one → IsReadingOf octets other → IsSameAnswer one other
-
--- the answer is not want of memory
-abbrev pub IsSettled : Result Network ConfFault → Type 0
-IsSettled (Ok net) = Unit {0}
-IsSettled (Err (Fault number place)) = Unit {0}
-IsSettled (Err (Memory e)) = ⊥
-
--- each text has an answer that is not want of memory
-abbrev pub EachIsRead : Type 0
-EachIsRead =
-    (octets : List ℕ) → (due : Result Network ConfFault) × IsSettled due × IsReadingOf octets due
-
--- the network of a text is accepted
-abbrev pub ReadingIsAccepted : Type 0
-ReadingIsAccepted =
-    (octets : List ℕ) (net : Network) → IsReadingOf octets (Ok net) → IsAccepted net.cfg net.db

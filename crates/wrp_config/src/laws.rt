@@ -1,6 +1,5 @@
-//! Laws of accepted networks, for the layers that stand on them. Each function computes nothing.
+//! Laws of accepted networks, for the crates that use them. Each function computes nothing.
 ghost use Rattle.wrp_config.specs.Laws.{OneGrandmaster, ChildIsDeeper, PortIsOfOneLink, ModulesAreListed};
-ghost use Rattle.wrp_config.specs.Same.{EachIsRead, OneReading, ReadingIsAccepted};
 
 /// An accepted network has one grandmaster, and the walk from each node up its parents ends at it after
 /// at most 8 links.
@@ -22,20 +21,4 @@ pub fn port_is_of_one_link()
 /// The modules that a link of an accepted network names are listed at its ports.
 pub fn modules_are_listed()
     ensures { ModulesAreListed }
-{}
-
-/// One text has one answer: two that are not want of memory are both the same network, but for what
-/// stands in the unused room of its names, or both a fault of one code at one place.
-pub fn one_reading()
-    ensures { OneReading }
-{}
-
-/// Each text has an answer that is not want of memory: a network or a fault.
-pub fn each_is_read()
-    ensures { EachIsRead }
-{}
-
-/// The network that a text has for an answer is accepted.
-pub fn reading_is_accepted()
-    ensures { ReadingIsAccepted }
 {}

@@ -2,6 +2,7 @@
 ghost use Rattle.std.specs.Prelude.{◌≡◌, ◌<◌, length, option_map, IfSome};
 ghost use Rattle.std.specs.List.{find, position};
 ghost use Rattle.wrp_caldb.specs.Name.{same_name};
+ghost use Rattle.wrp_network.specs.Network as network;
 ghost use Rattle.wrp_config.specs.Names as spec;
 ghost use Rattle.wrp_config.specs.Names.{has_port, is_lower_end, is_upper_end, pair_at, pair_of, listed_at};
 
@@ -130,6 +131,13 @@ pub fn pair_at(cfg: &NetCfg, node: u8, port: u16) -> Option<(u16, u16)>
         Some(link) => Some(pair_of(link, node, port)),
         None => None,
     }
+}
+
+/// The first link that has this node as its lower end. `None` exactly where the node has no parent.
+pub fn link_above<'a>(cfg: &'a NetCfg, n: u8) -> Option<&'a LinkCfg>
+    ensures { option_map (λ link. link.now) result ≡ network.link_above cfg.now n }
+{
+    cfg.links.iter().find(|link| link.lower == n)
 }
 
 // The wavelengths that a port at an end of a link sends and receives, in nm.

@@ -9,8 +9,8 @@ use Rattle.wrp_network.specs.Network.{End}
 use Rattle.wrp_bounds.specs.Times.{shortest_tick, frame_life}
 use Rattle.wrp_check.specs.Judged.{LeadsOn}
 use Rattle.wrp_check.specs.Laws.{state_after}
-use Rattle.wrp_handshake.specs.Ends.{CanBe}
-use Rattle.wrp_handshake.specs.Laws.{LeadsTo, MarksAreAHistory}
+use Rattle.wrp_handshake_laws.specs.Ends.{CanBe}
+use Rattle.wrp_handshake_laws.specs.Laws.{LeadsTo, MarksAreAHistory}
 use Rattle.wrp_node.specs.NodeAt.{link_at}
 use Rattle.wrp_course.specs.declared.place.Place.{Place}
 use Rattle.wrp_course.specs.Judged.{PortsAreJudged}

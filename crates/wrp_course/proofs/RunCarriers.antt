@@ -9,7 +9,7 @@ use Rattle.wrp_network.specs.Network.{End}
 use Rattle.wrp_base.specs.Link.{other_of}
 use Rattle.wrp_base.proofs.Naturals.{eq_self}
 use Rattle.wrp_bounds.specs.Times.{shortest_tick, frame_life}
-use Rattle.wrp_handshake.specs.Ends.{after_input}
+use Rattle.wrp_handshake_laws.specs.Ends.{after_input}
 use Rattle.wrp_link.specs.declared.interface.LinkIn.TheVariants as link_in
 use Rattle.wrp_node.specs.declared.interface.Input.TheVariants.{Carrier}
 use Rattle.wrp_node.specs.LinkNews.{Nothing, Given as Handed, StepGivesLinks}

@@ -6,7 +6,7 @@ use Rattle.wrp_base.specs.declared.message.PtpMsg.{PtpMsg}
 use Rattle.wrp_network.specs.Network.{End}
 use Rattle.wrp_base.proofs.Naturals.{eq_self}
 use Rattle.wrp_frame.specs.declared.fault.FrameFault.{FrameFault}
-use Rattle.wrp_handshake.specs.Ends.{IsNoCarrier, Port}
+use Rattle.wrp_handshake_laws.specs.Ends.{IsNoCarrier, Port}
 use Rattle.wrp_link.specs.declared.interface.LinkIn.{LinkIn}
 use Rattle.wrp_link.specs.declared.interface.LinkIn.TheVariants as link_in
 use Rattle.wrp_link.specs.LinkAt.{LinkAt}

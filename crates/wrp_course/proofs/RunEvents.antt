@@ -12,9 +12,9 @@ use Rattle.wrp_base.proofs.Booleans.{not_both}
 use Rattle.wrp_bounds.specs.Times.{shortest_tick, frame_life}
 use Rattle.wrp_check.specs.Handshake.{SameHandshake}
 use Rattle.wrp_frame.specs.declared.fault.FrameFault.{FrameFault}
-use Rattle.wrp_handshake.specs.Deltas.{KnowsDeltas}
-use Rattle.wrp_handshake.specs.Ends.{CanBe, placed_at}
-use Rattle.wrp_handshake.specs.Laws.{OnInTheSameHandshake as OnAsOneLink, CarrierWithItsModule as ModuleAsOneLink}
+use Rattle.wrp_handshake_laws.specs.Deltas.{KnowsDeltas}
+use Rattle.wrp_handshake_laws.specs.Ends.{CanBe, placed_at}
+use Rattle.wrp_handshake_laws.specs.Laws.{OnInTheSameHandshake as OnAsOneLink, CarrierWithItsModule as ModuleAsOneLink}
 use Rattle.wrp_link.specs.LinkAt.{LinkAt}
 use Rattle.wrp_node.specs.declared.interface.Input.TheVariants.{Tick as TickInput, Sample as SampleInput, Frame}
 use Rattle.wrp_node.specs.NodeAt.{link_at}

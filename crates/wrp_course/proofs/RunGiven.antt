@@ -15,7 +15,7 @@ use Rattle.wrp_base.specs.Link.{other_of}
 use Rattle.wrp_bounds.specs.Times.{shortest_tick, frame_life}
 use Rattle.wrp_data.specs.declared.reason.Reason.{Reason}
 use Rattle.wrp_frame.specs.declared.fault.FrameFault.{FrameFault}
-use Rattle.wrp_handshake.specs.Ends.{Port, BothPorts, Sending as Message, Change, Passes, Hears, Starts, Lights, IsAmong, IsNoCarrier, MayHear, MayCome, CanBe, placed_at, placed_by, changed, after_input, marked, port_by, with_end, end_of as port_of}
+use Rattle.wrp_handshake_laws.specs.Ends.{Port, BothPorts, Sending as Message, Change, Passes, Hears, Starts, Lights, IsAmong, IsNoCarrier, MayHear, MayCome, CanBe, placed_at, placed_by, changed, after_input, marked, port_by, with_end, end_of as port_of}
 use Rattle.wrp_link.specs.declared.interface.LinkIn.TheVariants as link_in
 use Rattle.wrp_link.specs.LinkAt.{LinkAt, new_link}
 use Rattle.wrp_link.specs.Rows.{CarrierGoes, under}

@@ -18,7 +18,7 @@ use Rattle.wrp_data.specs.declared.reason.Reason.{Reason}
 use Rattle.wrp_data.specs.declared.reason.Reason.TheVariants.{Domain, NotForUs, Quiet, Stranger}
 use Rattle.wrp_frame.specs.declared.fault.FrameFault.{FrameFault}
 use Rattle.wrp_frame.specs.SentOctets.{octets_of}
-use Rattle.wrp_handshake.specs.Ends.{Sending as Message, IsAmong}
+use Rattle.wrp_handshake_laws.specs.Ends.{Sending as Message, IsAmong}
 use Rattle.wrp_node.specs.declared.interface.Input.TheVariants.{Frame}
 use Rattle.wrp_node.specs.LinkNews.{Nothing, news_of, frame_news}
 use Rattle.wrp_node.specs.NodeAt.{link_at, setting_of}

@@ -11,8 +11,8 @@ use Rattle.wrp_network.specs.declared.network.LinkCfg.{LinkCfg}
 use Rattle.wrp_network.specs.Network.{End}
 use Rattle.wrp_base.specs.Link.{other_of}
 use Rattle.wrp_config.specs.Laws.{ChildIsDeeper}
-use Rattle.wrp_handshake.specs.Ends.{Port}
-use Rattle.wrp_handshake.specs.Laws.{OnInTheSameHandshake as OnAsOneLink, OnWithTheDeltas as DeltasAsOneLink, CarrierWithItsModule as ModuleAsOneLink}
+use Rattle.wrp_handshake_laws.specs.Ends.{Port}
+use Rattle.wrp_handshake_laws.specs.Laws.{OnInTheSameHandshake as OnAsOneLink, OnWithTheDeltas as DeltasAsOneLink, CarrierWithItsModule as ModuleAsOneLink}
 use Rattle.wrp_node.specs.declared.interface.Input.{Input}
 use Rattle.wrp_node.specs.declared.interface.Input.TheVariants.{Tick as TickInput, Sample as SampleInput, Frame, Sent, Carrier, Reset}
 use Rattle.wrp_node.specs.LinkNews.{StepGivesLinks}

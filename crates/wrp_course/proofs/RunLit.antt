@@ -10,7 +10,7 @@ use Rattle.wrp_base.specs.declared.message.WrMsg.{WrMsg}
 use Rattle.wrp_base.specs.declared.message.WrMsg.TheVariants.{Present as SLAVE_PRESENT, Lock as LOCK, Locked as LOCKED, Calibrate as CALIBRATE, Calibrated as CALIBRATED, ModeOn as WR_MODE_ON}
 use Rattle.wrp_network.specs.Network.{End}
 use Rattle.wrp_frame.specs.declared.fault.FrameFault.{FrameFault}
-use Rattle.wrp_handshake.specs.Ends.{Port}
+use Rattle.wrp_handshake_laws.specs.Ends.{Port}
 use Rattle.wrp_link.specs.declared.interface.LinkIn.TheVariants as link_in
 use Rattle.wrp_link.specs.LinkAt.{LinkAt, Waiting}
 use Rattle.wrp_link.specs.Rows.{Row, Moves, Resends, Fails, Waits, Counts, announce_row, may_leave_idle, master_row, message_row, offers, resent, slave_row, tick_row, timer_row, under}

@@ -7,7 +7,7 @@ use Rattle.wrp_base.specs.declared.link.Role.TheVariants.{Master, Slave}
 use Rattle.wrp_network.specs.declared.network.LinkCfg.{LinkCfg}
 use Rattle.wrp_network.specs.Network.{End}
 use Rattle.wrp_bounds.specs.Times.{shortest_tick, frame_life}
-use Rattle.wrp_handshake.specs.Ends.{Port, BothPorts, Passes, Starts, with_end, end_of as port_of}
+use Rattle.wrp_handshake_laws.specs.Ends.{Port, BothPorts, Passes, Starts, with_end, end_of as port_of}
 use Rattle.wrp_course.specs.declared.clocks.ClockState.{ClockState}
 use Rattle.wrp_course.specs.declared.event.Event.{Event}
 use Rattle.wrp_course.specs.declared.event.Event.TheVariants.{Pass, Tick, Sample, Depart, Arrive, Deliver, Noise, Down, Up, Cut, Join}

@@ -14,7 +14,7 @@ use Rattle.wrp_bounds.specs.Times.{shortest_tick, frame_life}
 use Rattle.wrp_config.specs.Laws.{ChildIsDeeper}
 use Rattle.wrp_config.specs.Names.{is_lower_end, is_upper_end}
 use Rattle.wrp_data.specs.declared.datasets.PortDs.{PortDs}
-use Rattle.wrp_handshake.specs.Ends.{OutlivesFrames, new_port}
+use Rattle.wrp_handshake_laws.specs.Ends.{OutlivesFrames, new_port}
 use Rattle.wrp_link.specs.declared.interface.LinkSet.{LinkSet}
 use Rattle.wrp_link.specs.LinkAt.{new_link}
 use Rattle.wrp_node.specs.declared.interface.NodeSet.{NodeSet}

@@ -12,7 +12,7 @@ use Rattle.wrp_network.specs.Network.{End}
 use Rattle.wrp_base.proofs.Naturals.{eq_self}
 use Rattle.wrp_data.specs.declared.reason.Reason.{Reason}
 use Rattle.wrp_frame.specs.declared.fault.FrameFault.{FrameFault}
-use Rattle.wrp_handshake.specs.Ends.{Port, Sending as Message, stamped, mover_of as mover_in, marked, after_input}
+use Rattle.wrp_handshake_laws.specs.Ends.{Port, Sending as Message, stamped, mover_of as mover_in, marked, after_input}
 use Rattle.wrp_link.specs.declared.interface.LinkIn.TheVariants as link_in
 use Rattle.wrp_link.specs.LinkAt.{new_link}
 use Rattle.wrp_link.specs.Table.{by_row}

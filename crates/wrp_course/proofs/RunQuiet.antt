@@ -11,13 +11,13 @@ use Rattle.wrp_base.proofs.Booleans.{not_both}
 use Rattle.wrp_base.proofs.Integers.{int_le_self, int_le_trans}
 use Rattle.wrp_bounds.specs.Times.{frame_life, shortest_tick}
 use Rattle.wrp_frame.specs.declared.fault.FrameFault.{FrameFault}
-use Rattle.wrp_handshake.specs.Ends.{OutlivesFrames, Port, ticked_by}
-use Rattle.wrp_handshake.specs.Laws.{IsAwake, IsLongAgo}
-use Rattle.wrp_handshake.proofs.Inputs.{engaged_awake, idle_or_not, tick_grows, tick_past}
-use Rattle.wrp_handshake.proofs.Parts.{not_idle}
-use Rattle.wrp_handshake.proofs.RowFits.{RowFits, row_fits}
-use Rattle.wrp_handshake.proofs.Stages.{Kind, opening, engaging, answering, binding, going_on}
-use Rattle.wrp_handshake.proofs.Times.{Calm, calm_later, calm_over, calm_tick}
+use Rattle.wrp_handshake_laws.specs.Ends.{OutlivesFrames, Port, ticked_by}
+use Rattle.wrp_handshake_laws.specs.Laws.{IsAwake, IsLongAgo}
+use Rattle.wrp_handshake_laws.proofs.Inputs.{engaged_awake, idle_or_not, tick_grows, tick_past}
+use Rattle.wrp_handshake_laws.proofs.Parts.{not_idle}
+use Rattle.wrp_handshake_laws.proofs.RowFits.{RowFits, row_fits}
+use Rattle.wrp_handshake_laws.proofs.Stages.{Kind, opening, engaging, answering, binding, going_on}
+use Rattle.wrp_handshake_laws.proofs.Times.{Calm, calm_later, calm_over, calm_tick}
 use Rattle.wrp_link.specs.declared.interface.LinkIn.{LinkIn}
 use Rattle.wrp_link.specs.declared.interface.LinkIn.TheVariants as link_in
 use Rattle.wrp_link.specs.LinkAt.{LinkAt, new_link}

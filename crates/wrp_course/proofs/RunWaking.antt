@@ -13,7 +13,7 @@ use Rattle.wrp_base.proofs.Integers.{int_le_self, int_le_trans}
 use Rattle.wrp_base.proofs.Lists.{head_and_tail}
 use Rattle.wrp_bounds.specs.Times.{frame_life, shortest_tick}
 use Rattle.wrp_frame.specs.declared.fault.FrameFault.{FrameFault}
-use Rattle.wrp_handshake.specs.Laws.{IsLongAgo, QuietTimeOutlivesFrames}
+use Rattle.wrp_handshake_laws.specs.Laws.{IsLongAgo, QuietTimeOutlivesFrames}
 use Rattle.wrp_link.specs.LinkAt.{LinkAt}
 use Rattle.wrp_node.specs.declared.interface.Input.TheVariants.{Tick as TickInput}
 use Rattle.wrp_node.specs.LinkNews.{StepGivesLinks}

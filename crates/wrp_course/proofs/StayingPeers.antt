@@ -1,7 +1,7 @@
 -- Each end of a link stays in the handshake that the other relies on: each link is one that can be.
 use Rattle.wrp_bounds.specs.Times.{shortest_tick, frame_life}
-use Rattle.wrp_handshake.specs.Ends.{CanBe, BothPorts}
-use Rattle.wrp_handshake.specs.Laws.{MasterStaysFromLock, SlaveStaysFromLocked}
+use Rattle.wrp_handshake_laws.specs.Ends.{CanBe, BothPorts}
+use Rattle.wrp_handshake_laws.specs.Laws.{MasterStaysFromLock, SlaveStaysFromLocked}
 use Rattle.wrp_course.specs.LinkEnds.{ends_at}
 use Rattle.wrp_course.specs.PeersStay.{PeersStayInTheHandshake}
 use Rattle.wrp_course.specs.Run.{world_after}

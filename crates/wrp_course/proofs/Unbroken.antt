@@ -1,6 +1,6 @@
 -- Of a list of checks none fails exactly where none is the first that fails.
 use Rattle.std.proofs.Common.{◌≡◌, refl, List, [], ◌∷◌, None, Some}
-use Rattle.wrp_handshake.proofs.Parts.{by_bool}
+use Rattle.wrp_handshake_laws.proofs.Parts.{by_bool}
 use Rattle.wrp_course.specs.Checks.{Check, AllHold, first_broken}
 use Rattle.wrp_course.specs.Laws.{AcceptedIsUnbroken}
 use Rattle.wrp_course.specs.Premises.{checks_of}

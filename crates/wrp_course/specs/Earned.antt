@@ -6,7 +6,7 @@ use Rattle.wrp_base.specs.declared.link.LinkState.TheVariants.{LinkOn}
 use Rattle.wrp_base.specs.declared.link.LinkWord.TheVariants.{In}
 use Rattle.wrp_base.specs.declared.link.Role.TheVariants.{Master, Slave}
 use Rattle.wrp_network.specs.declared.network.LinkCfg.{LinkCfg}
-use Rattle.wrp_handshake.specs.Deltas.{KnowsDeltas}
+use Rattle.wrp_handshake_laws.specs.Deltas.{KnowsDeltas}
 use Rattle.wrp_node.specs.declared.interface.Output.{Output}
 use Rattle.wrp_node.specs.declared.interface.Output.TheVariants.{Report}
 use Rattle.wrp_node.specs.declared.interface.Report.TheVariants.{Link}

@@ -14,7 +14,7 @@ use Rattle.wrp_base.specs.Link.{other_of}
 use Rattle.wrp_frame.specs.declared.fault.FrameFault.{FrameFault}
 use Rattle.wrp_frame.specs.declared.fault.FrameFault.TheVariants.{Short}
 use Rattle.wrp_frame.specs.SentOctets.{octets_of}
-use Rattle.wrp_handshake.specs.Ends.{marked}
+use Rattle.wrp_handshake_laws.specs.Ends.{marked}
 use Rattle.wrp_node.specs.declared.interface.Input.{Input}
 use Rattle.wrp_node.specs.declared.interface.Input.TheVariants.{Tick as TickInput, Sample as SampleInput, Frame, Sent, Carrier, Reset}
 use Rattle.wrp_node.specs.declared.interface.Output.{Output}

@@ -6,7 +6,7 @@ use Rattle.wrp_base.specs.Link.{other_of}
 use Rattle.wrp_check.specs.declared.verdict.Verdict.{Verdict}
 use Rattle.wrp_check.specs.declared.verdict.Verdict.TheVariants.{NotOn}
 use Rattle.wrp_check.specs.Judged.{Judges}
-use Rattle.wrp_handshake.specs.Laws.{LeadsTo}
+use Rattle.wrp_handshake_laws.specs.Laws.{LeadsTo}
 use Rattle.wrp_course.specs.declared.place.Place.{Place}
 use Rattle.wrp_course.specs.Run.{Happened, world_after}
 use Rattle.wrp_course.specs.Runs.{IsRun}

@@ -5,7 +5,7 @@ use Rattle.wrp_base.specs.declared.link.Role.{Role}
 use Rattle.wrp_base.specs.declared.link.Role.TheVariants.{Master, Slave}
 use Rattle.wrp_network.specs.declared.network.LinkCfg.{LinkCfg}
 use Rattle.wrp_network.specs.Network.{End}
-use Rattle.wrp_handshake.specs.Ends.{Port, BothPorts, Sending as Message}
+use Rattle.wrp_handshake_laws.specs.Ends.{Port, BothPorts, Sending as Message}
 use Rattle.wrp_node.specs.NodeAt.{link_at}
 use Rattle.wrp_course.specs.Given.{in_body}
 use Rattle.wrp_course.specs.Setting.{Setting, end_of, entry_at}

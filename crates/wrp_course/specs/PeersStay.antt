@@ -6,7 +6,7 @@ use Rattle.wrp_base.specs.declared.link.LinkState.TheVariants.{Idle, Present, SL
 use Rattle.wrp_base.specs.declared.link.Role.TheVariants.{Master, Slave}
 use Rattle.wrp_base.specs.declared.message.WrMsg.TheVariants.{Lock as LOCK, Locked as LOCKED}
 use Rattle.wrp_network.specs.declared.network.LinkCfg.{LinkCfg}
-use Rattle.wrp_handshake.specs.Laws.{Moved}
+use Rattle.wrp_handshake_laws.specs.Laws.{Moved}
 use Rattle.wrp_course.specs.LinkEnds.{port_at}
 use Rattle.wrp_course.specs.Run.{Happened, world_after}
 use Rattle.wrp_course.specs.Runs.{IsRun}

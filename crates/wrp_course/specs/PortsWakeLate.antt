@@ -5,8 +5,8 @@ use Rattle.wrp_base.specs.declared.link.LinkState.TheVariants.{Idle}
 use Rattle.wrp_base.specs.declared.link.Role.{Role}
 use Rattle.wrp_network.specs.declared.network.LinkCfg.{LinkCfg}
 use Rattle.wrp_bounds.specs.Times.{frame_life}
-use Rattle.wrp_handshake.specs.Ends.{Port}
-use Rattle.wrp_handshake.specs.Laws.{IsAwake, IsLongAgo}
+use Rattle.wrp_handshake_laws.specs.Ends.{Port}
+use Rattle.wrp_handshake_laws.specs.Laws.{IsAwake, IsLongAgo}
 use Rattle.wrp_course.specs.declared.event.Event.{Event}
 use Rattle.wrp_course.specs.declared.event.Event.TheVariants.{Join, Up}
 use Rattle.wrp_course.specs.LinkEnds.{port_at}

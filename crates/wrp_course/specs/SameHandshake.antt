@@ -8,8 +8,8 @@ use Rattle.wrp_network.specs.declared.network.LinkCfg.{LinkCfg}
 use Rattle.wrp_base.specs.Link.{other_of}
 use Rattle.wrp_bounds.specs.Times.{shortest_tick, frame_life}
 use Rattle.wrp_check.specs.Handshake.{SameHandshake}
-use Rattle.wrp_handshake.specs.Deltas.{KnowsDeltas}
-use Rattle.wrp_handshake.specs.Ends.{CanBe}
+use Rattle.wrp_handshake_laws.specs.Deltas.{KnowsDeltas}
+use Rattle.wrp_handshake_laws.specs.Ends.{CanBe}
 use Rattle.wrp_node.specs.NodeAt.{link_at}
 use Rattle.wrp_course.specs.declared.place.Place.{Place}
 use Rattle.wrp_course.specs.LinkEnds.{ends_at, in_place, port_at}

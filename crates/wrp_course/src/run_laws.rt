@@ -14,7 +14,7 @@ ghost use Rattle.wrp_course.specs.SameHandshake.{LinkOnInTheSameHandshake, LinkO
 
 use crate::laws::arrival_keeps_stamp_bound;
 use wrp_config::child_is_deeper;
-use wrp_handshake::{
+use wrp_handshake_laws::{
     carrier_with_its_module, marks_are_a_history, master_stays_from_lock, on_in_the_same_handshake,
     on_with_the_deltas, quiet_time_outlives_frames, slave_stays_from_locked,
 };

@@ -5,6 +5,7 @@ ghost use Rattle.wrp_config.specs.Accepted.{IsAccepted};
 use std::alloc::{AllocError, Global};
 use wrp_base::TraceFault;
 use wrp_config::Network;
+use wrp_network_text::ReadNetwork;
 use wrp_suite::Fault;
 
 /// The network text of an input, and what stands behind its line `---`.

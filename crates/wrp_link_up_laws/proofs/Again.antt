@@ -3,7 +3,7 @@ use Rattle.std.proofs.Common.{inl, inr, refl, pos, ◌≤ℤ◌, arith}
 use Rattle.std.proofs.lemmas.Int.{ints}
 use Rattle.wrp_base.specs.declared.link.Role.{Role}
 use Rattle.wrp_base.specs.declared.link.Role.TheVariants.{Master, Slave}
-use Rattle.wrp_handshake.specs.Ends.{IsAmong, Sending, end_of}
+use Rattle.wrp_handshake_laws.specs.Ends.{IsAmong, Sending, end_of}
 use Rattle.wrp_link_up_laws.specs.Again.{WorkedAgain, again_run, failed, stays_on_again, rests_of}
 use Rattle.wrp_link_up_laws.specs.Rest.{IsResting, first_ends, resting_ends}
 use Rattle.wrp_link_up_laws.specs.Worked.{pace}

@@ -8,8 +8,8 @@ use Rattle.wrp_link.specs.declared.interface.LinkIn.{LinkIn}
 use Rattle.wrp_link.specs.LinkAt.{LinkAt}
 use Rattle.wrp_link.specs.Rows.{row_of}
 use Rattle.wrp_link.specs.Table.{by_row, sent_by}
-use Rattle.wrp_handshake.specs.Ends.{Sending, BothPorts, Change, Passes, Hears, Starts, Lights, MayCome, changed, ends_after, stamped, ticked_by}
-use Rattle.wrp_handshake.specs.Laws.{IsAwake}
+use Rattle.wrp_handshake_laws.specs.Ends.{Sending, BothPorts, Change, Passes, Hears, Starts, Lights, MayCome, changed, ends_after, stamped, ticked_by}
+use Rattle.wrp_handshake_laws.specs.Laws.{IsAwake}
 use Rattle.wrp_link_up_laws.specs.Pace.{IsPrompt, IsReady, IsSteady}
 use Rattle.wrp_link_up_laws.proofs.Changes.{Standing, awake_by, coming, early_of, idle_or_out, is_on, master_safe, outcome_of, prompt_of}
 use Rattle.wrp_link_up_laws.proofs.Ports.{BothHold, Given, Outcome, Step, moves, moves_reach, no_quiet, none_left, reached, stays}

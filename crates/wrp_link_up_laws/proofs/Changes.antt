@@ -14,11 +14,11 @@ use Rattle.wrp_link.specs.Rows.{Row, NoRow, Stays, Moves, Keeps, Resends, Fails,
 use Rattle.wrp_link.specs.Table.{counted, by_row, sent_by}
 use Rattle.wrp_link.proofs.Fits.{Belongs}
 use Rattle.wrp_link.proofs.Orders.{counted_state}
-use Rattle.wrp_handshake.specs.Ends.{Sending, Port, BothPorts, Change, Passes, Hears, stamped, ticked_by, MayHear, changed, ends_after}
-use Rattle.wrp_handshake.specs.Laws.{IsAwake}
-use Rattle.wrp_handshake.proofs.Failing.{row_fails}
-use Rattle.wrp_handshake.proofs.RowFits.{RowFits, row_fits}
-use Rattle.wrp_handshake.proofs.Times.{Calm, calm_over}
+use Rattle.wrp_handshake_laws.specs.Ends.{Sending, Port, BothPorts, Change, Passes, Hears, stamped, ticked_by, MayHear, changed, ends_after}
+use Rattle.wrp_handshake_laws.specs.Laws.{IsAwake}
+use Rattle.wrp_handshake_laws.proofs.Failing.{row_fails}
+use Rattle.wrp_handshake_laws.proofs.RowFits.{RowFits, row_fits}
+use Rattle.wrp_handshake_laws.proofs.Times.{Calm, calm_over}
 use Rattle.wrp_link_up_laws.specs.Pace.{InTurn, IsPrompt, IsReady, LeavesCarrier, IsSteady, rest_of}
 use Rattle.wrp_link_up_laws.proofs.Exchanges.{grown}
 use Rattle.wrp_link_up_laws.proofs.Ports.{Given, Holds, BothHold, PortUp, Outcome, stays, moves, Step, row_up, reached, told_from, no_holdoff, no_quiet, none_left}

@@ -13,7 +13,7 @@ use Rattle.wrp_link.specs.declared.interface.LinkIn.{LinkIn}
 use Rattle.wrp_link.specs.declared.interface.LinkIn.TheVariants.{Msg}
 use Rattle.wrp_link.specs.LinkAt.{LinkAt, wait_of}
 use Rattle.wrp_link.specs.Rows.{own_calibrate, own_calibrated, resent}
-use Rattle.wrp_handshake.specs.Ends.{Sending, BothPorts, Change, Hears, IsAmong, stamped}
+use Rattle.wrp_handshake_laws.specs.Ends.{Sending, BothPorts, Change, Hears, IsAmong, stamped}
 use Rattle.wrp_link_up_laws.specs.Pace.{InTurn, IsUnheard, IsHeard}
 use Rattle.wrp_link_up_laws.proofs.Ports.{Given, Holds, BothHold, PortUp, IsFresh, Outcome, stays, moves, reached, told_from, Runs, same_waiting}
 use Rattle.wrp_link_up_laws.proofs.Sums.{le_self}

@@ -14,13 +14,13 @@ use Rattle.wrp_link.specs.LinkAt.{LinkAt, Waiting, wait_of, armed, entering}
 use Rattle.wrp_link.specs.Rows.{Row, NoRow, Stays, Moves, Keeps, Resends, Fails, Waits, Counts, CarrierComes, CarrierGoes, resent}
 use Rattle.wrp_link.specs.Table.{ticked, retried, counted, by_row, sent_by, is_same}
 use Rattle.wrp_link.proofs.Fits.{Belongs}
-use Rattle.wrp_handshake.specs.Ends.{Sending, IsAmong, stamped, ticked_by}
-use Rattle.wrp_handshake.proofs.Failing.{FailsBy}
-use Rattle.wrp_handshake.proofs.Inputs.{tick_past}
-use Rattle.wrp_handshake.proofs.Parts.{stamped_in}
-use Rattle.wrp_handshake.proofs.RowFits.{RowFits}
-use Rattle.wrp_handshake.proofs.Stages.{Sends, SendsAll, FitsMove}
-use Rattle.wrp_handshake.proofs.Times.{Calm, calm_tick, calm_over}
+use Rattle.wrp_handshake_laws.specs.Ends.{Sending, IsAmong, stamped, ticked_by}
+use Rattle.wrp_handshake_laws.proofs.Failing.{FailsBy}
+use Rattle.wrp_handshake_laws.proofs.Inputs.{tick_past}
+use Rattle.wrp_handshake_laws.proofs.Parts.{stamped_in}
+use Rattle.wrp_handshake_laws.proofs.RowFits.{RowFits}
+use Rattle.wrp_handshake_laws.proofs.Stages.{Sends, SendsAll, FitsMove}
+use Rattle.wrp_handshake_laws.proofs.Times.{Calm, calm_tick, calm_over}
 use Rattle.wrp_link_up_laws.specs.Pace.{Pace, patience, LeavesCarrier, rest_of}
 use Rattle.wrp_link_up_laws.proofs.Sums.{less_one, a_wait_less, last_late, fresh_late, one_left, tick_less, quiet_less, OnFor, on_tick, below, clash, le_self}
 use Rattle.wrp_link_up_laws.proofs.Tells.{MovesBy, NoTick, IsTick, StaysBy, RowTells}

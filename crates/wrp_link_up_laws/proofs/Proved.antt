@@ -11,9 +11,9 @@ use Rattle.wrp_link.specs.LinkAt.{LinkAt, with_carrier}
 use Rattle.wrp_link.specs.Rows.{row_of}
 use Rattle.wrp_link.proofs.Orders.{idle_belongs}
 use Rattle.wrp_link.proofs.Runs.{by_row_role, by_row_set}
-use Rattle.wrp_handshake.specs.Ends.{Sending, Port, BothPorts, Change, Passes, Hears, Starts, Lights, IsAmong, MayCome, AllMayCome, CanBe, changed, ends_after}
-use Rattle.wrp_handshake.proofs.Changes.{EndsKeep, all_keep, start_keeps}
-use Rattle.wrp_handshake.proofs.Proved as handshake
+use Rattle.wrp_handshake_laws.specs.Ends.{Sending, Port, BothPorts, Change, Passes, Hears, Starts, Lights, IsAmong, MayCome, AllMayCome, CanBe, changed, ends_after}
+use Rattle.wrp_handshake_laws.proofs.Changes.{EndsKeep, all_keep, start_keeps}
+use Rattle.wrp_handshake_laws.proofs.Proved as handshake
 use Rattle.wrp_link_up_laws.specs.Laws.{LinkRun, lights, new, changes, dark, lit, last, IsServed, BothOutlast, BothInTurn, IsPast, IsUp, ComesUp, ComesUpInTurn}
 use Rattle.wrp_link_up_laws.specs.Pace.{AllInTurn, InTurn, patience, Pace, IsPrompt, IsSteady, IsGood}
 use Rattle.wrp_link_up_laws.proofs.Changes.{Standing, coming, is_on, prompt_of, passes_up, passes_stage, on_stays, carrier_by, master_hears, slave_hears}

@@ -11,9 +11,9 @@ use Rattle.wrp_link.specs.Rows.{Row, Counts, Fails, CarrierComes, CarrierGoes, r
 use Rattle.wrp_link.specs.Table.{by_row, counted}
 use Rattle.wrp_link.proofs.Fits.{Belongs}
 use Rattle.wrp_link.proofs.Orders.{idle_belongs}
-use Rattle.wrp_handshake.specs.Ends.{Sending, Port, BothPorts, Change, Passes, Hears, Starts, Lights, IsAmong, AllMayCome, CanBe, changed, ends_after}
-use Rattle.wrp_handshake.proofs.Changes.{EndsKeep, all_keep, start_keeps}
-use Rattle.wrp_handshake.proofs.Proved as handshake
+use Rattle.wrp_handshake_laws.specs.Ends.{Sending, Port, BothPorts, Change, Passes, Hears, Starts, Lights, IsAmong, AllMayCome, CanBe, changed, ends_after}
+use Rattle.wrp_handshake_laws.proofs.Changes.{EndsKeep, all_keep, start_keeps}
+use Rattle.wrp_handshake_laws.proofs.Proved as handshake
 use Rattle.wrp_link_up_laws.specs.Laws.{IsUp}
 use Rattle.wrp_link_up_laws.specs.Pace.{AllInTurn, Pace, patience, rest_of}
 use Rattle.wrp_link_up_laws.specs.Rest.{BothInTurnFromRest, BothOutlastFromRest, ComesUpFromRest, ComesUpFromRestInTurn, IsPastRest, IsResting, IsServedFromRest, RestRun, first_ends, last_ends, longer_rest, resting_ends}

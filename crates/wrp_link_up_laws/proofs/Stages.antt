@@ -10,7 +10,7 @@ use Rattle.wrp_base.specs.declared.message.WrMsg.TheVariants.{Present as SLAVE_P
 use Rattle.wrp_base.specs.Link.{other_of}
 use Rattle.wrp_link.specs.LinkAt.{LinkAt, wait_of}
 use Rattle.wrp_link.specs.Rows.{own_calibrate}
-use Rattle.wrp_handshake.specs.Ends.{Sending, BothPorts, Change, IsAmong}
+use Rattle.wrp_handshake_laws.specs.Ends.{Sending, BothPorts, Change, IsAmong}
 use Rattle.wrp_link_up_laws.specs.Pace.{patience, rest_of, IsUnheard, IsUnoffered, IsUnlocked}
 use Rattle.wrp_link_up_laws.proofs.Ports.{Given, Holds, SentAgain, IsFresh, some_is}
 

@@ -13,13 +13,13 @@ use Rattle.wrp_link.specs.declared.interface.LinkIn.{LinkIn}
 use Rattle.wrp_link.specs.declared.interface.LinkIn.TheVariants.{Msg, Announce, Tick}
 use Rattle.wrp_link.specs.LinkAt.{LinkAt}
 use Rattle.wrp_link.specs.Rows.{may_leave_idle, offers, own_calibrate}
-use Rattle.wrp_handshake.specs.Ends.{Sending, BothPorts, Change, Hears, IsAmong, stamped}
+use Rattle.wrp_handshake_laws.specs.Ends.{Sending, BothPorts, Change, Hears, IsAmong, stamped}
 use Rattle.wrp_link_up_laws.specs.Pace.{InTurn, IsUnheard, IsOffered, AreAwake, rest_of}
 use Rattle.wrp_link_up_laws.proofs.Ports.{Given, Holds, BothHold, PortUp, Outcome, stays, moves, reached, told_from, no_holdoff, no_quiet, none_left}
 use Rattle.wrp_link_up_laws.proofs.Sums.{quiet_soon}
 use Rattle.wrp_link_up_laws.proofs.Tells.{Turns, MovesBy}
-use Rattle.wrp_handshake.proofs.Parts.{stamped_in}
-use Rattle.wrp_handshake.proofs.Stages.{Sends}
+use Rattle.wrp_handshake_laws.proofs.Parts.{stamped_in}
+use Rattle.wrp_handshake_laws.proofs.Stages.{Sends}
 use Rattle.wrp_link_up_laws.specs.Pace.{IsLocking}
 use Rattle.wrp_link_up_laws.proofs.Exchanges.{both_later, first_wait, GiverStepped, giver_steps, giver_patient, taker_steps, taker_patient}
 use Rattle.wrp_link_up_laws.proofs.Stages.{a_wait, by_one, by_two, by_three, by_four, before_calibrate, Exchange, calls, answers, tells, waits, exchange_soon, BothWait, Stage, resting, offered, answered, locking, locked, down, up, turning, Prompt, within, IsPatient, patient_at, untimed, soon_x, soon_y}

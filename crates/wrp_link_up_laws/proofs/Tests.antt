@@ -15,7 +15,7 @@ use Rattle.wrp_base.specs.Link.{other_of}
 use Rattle.wrp_link.specs.declared.interface.LinkIn.TheVariants.{Msg, Announce, Tick, CarrierDown, CarrierUp}
 use Rattle.wrp_link.specs.Rows.{offers, row_of}
 use Rattle.wrp_link.specs.Table.{sent_by, is_same}
-use Rattle.wrp_handshake.specs.Ends.{Sending, BothPorts, Change, Passes, Hears, Starts, Lights, end_of, IsAmong, stamped, MayCome, AllMayCome, changed, ends_after}
+use Rattle.wrp_handshake_laws.specs.Ends.{Sending, BothPorts, Change, Passes, Hears, Starts, Lights, end_of, IsAmong, stamped, MayCome, AllMayCome, changed, ends_after}
 use Rattle.wrp_link_up_laws.specs.Pace.{Pace, IsOwed, IsSentBy, IsHeard, IsUnheard, AreAwake, IsOffered, IsLocking, IsLockedTick, IsPrompt, IsSteady, IsGood, InTurn, AllInTurn}
 
 -- parts of a test

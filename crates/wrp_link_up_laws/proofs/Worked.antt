@@ -2,7 +2,7 @@
 use Rattle.std.proofs.Common.{◌≡◌, refl, true, List, arith}
 use Rattle.std.proofs.lemmas.Int.{ints}
 use Rattle.wrp_base.specs.declared.link.LinkState.TheVariants.{Calibration, Calibrated, LinkOn}
-use Rattle.wrp_handshake.specs.Ends.{Change}
+use Rattle.wrp_handshake_laws.specs.Ends.{Change}
 use Rattle.wrp_link_up_laws.specs.Laws.{new, changes, lit, IsServed, BothOutlast, BothInTurn}
 use Rattle.wrp_link_up_laws.specs.Slow.{slow_pace, slow_changes, slow_run, NoSooner}
 use Rattle.wrp_link_up_laws.specs.Worked.{pace, on_time, stays_on, run_of, WorkedUp, NoSoonerInTurn}

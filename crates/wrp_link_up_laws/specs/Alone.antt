@@ -3,7 +3,7 @@ use Rattle.std.specs.Prelude.{◌+◌, ◌*◌, ◌<◌, pos, true, List, [], �
 use Rattle.wrp_base.specs.declared.link.Role.TheVariants.{Slave}
 use Rattle.wrp_link.specs.declared.interface.LinkIn.TheVariants.{Announce}
 use Rattle.wrp_link.specs.declared.interface.LinkSet.{LinkSet}
-use Rattle.wrp_handshake.specs.Ends.{Change, Passes, Hears}
+use Rattle.wrp_handshake_laws.specs.Ends.{Change, Passes, Hears}
 use Rattle.wrp_link_up_laws.specs.Laws.{LinkRun, last, IsServed, IsPast, IsUp}
 use Rattle.wrp_link_up_laws.specs.Pace.{Pace, patience, OutlastsInTurn, time_to_up, time_in_turn}
 use Rattle.wrp_link_up_laws.specs.Slow.{patient, slow_pace, slow_called, slow_run}

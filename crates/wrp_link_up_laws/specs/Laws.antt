@@ -3,7 +3,7 @@ use Rattle.std.specs.Prelude.{◌≡◌, ℕ, ℤ, pos, ◌+ℤ◌, ◌<ℤ◌, 
 use Rattle.wrp_base.specs.declared.link.LinkState.TheVariants.{LinkOn}
 use Rattle.wrp_base.specs.declared.link.Module.{Module}
 use Rattle.wrp_link.specs.declared.interface.LinkSet.{LinkSet}
-use Rattle.wrp_handshake.specs.Ends.{BothPorts, Change, Lights, AllMayCome, OutlivesFrames, ends_after, new_ends}
+use Rattle.wrp_handshake_laws.specs.Ends.{BothPorts, Change, Lights, AllMayCome, OutlivesFrames, ends_after, new_ends}
 use Rattle.wrp_link_up_laws.specs.Pace.{Pace, Outlasts, OutlastsInTurn, IsGood, AllInTurn, time_to_up, time_in_turn}
 
 -- a link from its first change on, with all that happens before its carriers come and since, the newest first

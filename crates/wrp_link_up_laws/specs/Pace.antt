@@ -12,8 +12,8 @@ use Rattle.wrp_link.specs.declared.interface.LinkSet.{LinkSet}
 use Rattle.wrp_link.specs.LinkAt.{LinkAt}
 use Rattle.wrp_link.specs.Rows.{offers, row_of}
 use Rattle.wrp_link.specs.Table.{sent_by}
-use Rattle.wrp_handshake.specs.Ends.{Sending, Port, BothPorts, Change, Passes, Hears, Starts, Lights, end_of, IsAmong, stamped, ends_after}
-use Rattle.wrp_handshake.specs.Laws.{IsAwake}
+use Rattle.wrp_handshake_laws.specs.Ends.{Sending, Port, BothPorts, Change, Passes, Hears, Starts, Lights, end_of, IsAmong, stamped, ends_after}
+use Rattle.wrp_handshake_laws.specs.Laws.{IsAwake}
 
 -- the longest waits of a link, in tau
 pub record Pace : Type 0 where

@@ -5,7 +5,7 @@ use Rattle.wrp_base.specs.declared.link.LinkState.TheVariants.{Idle}
 use Rattle.wrp_base.specs.declared.link.Role.{Role}
 use Rattle.wrp_base.specs.declared.link.Role.TheVariants.{Master, Slave}
 use Rattle.wrp_link.specs.declared.interface.LinkSet.{LinkSet}
-use Rattle.wrp_handshake.specs.Ends.{AllMayCome, BothPorts, Change, IsAmong, OutlivesFrames, Port, Sending, end_of, ends_after, new_ends}
+use Rattle.wrp_handshake_laws.specs.Ends.{AllMayCome, BothPorts, Change, IsAmong, OutlivesFrames, Port, Sending, end_of, ends_after, new_ends}
 use Rattle.wrp_link_up_laws.specs.Laws.{IsUp}
 use Rattle.wrp_link_up_laws.specs.Pace.{AllInTurn, IsGood, Outlasts, OutlastsInTurn, Pace, rest_of}
 

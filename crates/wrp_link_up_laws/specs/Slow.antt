@@ -4,7 +4,7 @@ use Rattle.wrp_base.specs.declared.link.Role.TheVariants.{Master, Slave}
 use Rattle.wrp_base.specs.declared.message.WrMsg.TheVariants.{Present as SLAVE_PRESENT, Lock as LOCK, Locked as LOCKED, Calibrate as CALIBRATE, Calibrated as CALIBRATED}
 use Rattle.wrp_link.specs.declared.interface.LinkIn.TheVariants.{Msg, Announce, Tick}
 use Rattle.wrp_link.specs.declared.interface.LinkSet.{LinkSet}
-use Rattle.wrp_handshake.specs.Ends.{Change, Passes, Hears}
+use Rattle.wrp_handshake_laws.specs.Ends.{Change, Passes, Hears}
 use Rattle.wrp_link_up_laws.specs.Laws.{LinkRun, dark, last, IsServed, BothOutlast, IsUp}
 use Rattle.wrp_link_up_laws.specs.Pace.{Pace, time_to_up}
 use Rattle.wrp_link_up_laws.specs.Worked.{blue, violet, round}

@@ -20,7 +20,7 @@ use Rattle.wrp_course.specs.Premises.{Accepts, deliver_by, deliver_checks}
 use Rattle.wrp_course.specs.Run.{Happened, world_after}
 use Rattle.wrp_course.specs.Setting.{Setting}
 use Rattle.wrp_course.specs.WorldAt.{Arrival, FrameAt, WorldAt, is_on_fibre}
-use Rattle.wrp_truth.proofs.Frames.InOrder.{Numbered, all_numbered}
+use Rattle.wrp_bound_laws.proofs.Frames.InOrder.{Numbered, all_numbered}
 use Rattle.wrp_loop.specs.declared.fate.Fate.{Fate}
 use Rattle.wrp_loop.specs.declared.fate.Fate.TheVariants.{Handed, Forged, Noisy}
 use Rattle.wrp_loop.specs.Datagrams.{IsFate, IsFrameOf, IsSuch, IsWayOf, Way, handed_in, hands}

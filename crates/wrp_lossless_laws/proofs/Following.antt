@@ -14,7 +14,7 @@ use Rattle.wrp_course.specs.Runs.{IsNetwork}
 use Rattle.wrp_course.specs.Setting.{Setting}
 use Rattle.wrp_course.specs.Views.{IsNextArrival}
 use Rattle.wrp_course.specs.WorldAt.{FrameAt, WorldAt, is_on_fibre}
-use Rattle.wrp_due.proofs.Arriving.{next_arrival}
+use Rattle.wrp_due_laws.proofs.Arriving.{next_arrival}
 use Rattle.wrp_io.specs.declared.link.LinkCall.{LinkCall}
 use Rattle.wrp_io.specs.declared.link.LinkCall.TheVariants.{Start}
 use Rattle.wrp_io.specs.Link.{frame_of}

@@ -44,7 +44,7 @@ use Rattle.wrp_records.proofs.WordLemmas.{decimal_word, head_of, large_line_whol
 use Rattle.wrp_replay.specs.NodeText.{port_numbers}
 use Rattle.wrp_simulate.specs.SimText.{count_of, is_printed, node_sum, printed_line, printed_lines, sim_lines, sum_lines, tracked, worst_of}
 use Rattle.wrp_trace.specs.EventPrinting.{event_text}
-use Rattle.wrp_truth.specs.Chains.{AllFit}
+use Rattle.wrp_bound_laws.specs.Chains.{AllFit}
 use Rattle.wrp_trace.specs.LineSetting.{has_port, line_setting_in}
 use Rattle.wrp_asked.proofs.EventLines.{whole_line}
 use Rattle.wrp_asked.proofs.EventWords.{event_word}

@@ -5,14 +5,13 @@ use Rattle.std.proofs.lemmas.Str.{IsUtf8-from_is_utf8, is_utf8-from_IsUtf8}
 use Rattle.std.specs.Str.{IsUtf8, is_utf8}
 use Rattle.toml.specs.Data.{Members}
 use Rattle.toml.specs.Parse.{parse_document}
-use Rattle.wrp_caldb.proofs.OneText.{each_has_text}
-use Rattle.wrp_caldb.proofs.Refusals.{least_exact, least_none}
+use Rattle.wrp_calibration_text.proofs.OneText.{each_has_text}
+use Rattle.wrp_calibration_text.proofs.Refusals.{least_exact, least_none}
 use Rattle.wrp_caldb.specs.Calibration.{first_place}
-use Rattle.wrp_caldb.specs.Database.{Database, database_of}
+use Rattle.wrp_caldb.specs.Database.{Database, database_of, IsListed}
 use Rattle.wrp_caldb.specs.Place.{PlaceAt, place_text}
-use Rattle.wrp_caldb.specs.Reading.{IsFaultIn, IsReadingOf, IsTextOf}
+use Rattle.wrp_calibration_text.specs.Reading.{IsFaultIn, IsReadingOf, IsTextOf}
 use Rattle.wrp_caldb.specs.Refusal.{least_of, number_of}
-use Rattle.wrp_caldb.specs.Text.{IsListed}
 use Rattle.wrp_caldb.specs.declared.keys.Others.TheVariants.{Refused}
 use Rattle.wrp_caldb.specs.declared.row.Code.{Code}
 use Rattle.wrp_migrate.specs.Laws.{EachHasMigration}

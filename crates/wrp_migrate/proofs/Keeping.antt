@@ -5,13 +5,13 @@ use Rattle.toml.specs.Data.{Data, table, has_valid_dates, items_have_valid_dates
 use Rattle.toml.specs.View.{items_of}
 use Rattle.wrp_base.specs.declared.fault.ConfFault.{ConfFault}
 use Rattle.wrp_base.specs.declared.fault.ConfFault.TheVariants.{Fault, Memory}
-use Rattle.wrp_caldb.proofs.Depth.{document_depth}
-use Rattle.wrp_caldb.proofs.Migration.{accepted_again, same_again}
-use Rattle.wrp_caldb.proofs.ReadBack.{database_again}
+use Rattle.wrp_calibration_text.proofs.Depth.{document_depth}
+use Rattle.wrp_calibration_text.proofs.Migration.{accepted_again, same_again}
+use Rattle.wrp_calibration_text.proofs.ReadBack.{database_again}
 use Rattle.wrp_caldb.specs.Calibration.{IsAccepted}
-use Rattle.wrp_caldb.specs.Database.{Database, ModuleAt, FibreAt, TableAt, module_at, fibre_at, table_at, database_of}
-use Rattle.wrp_caldb.specs.Reading.{IsReadingOf, IsTextOf}
-use Rattle.wrp_caldb.specs.Text.{pair_members, module_members, point_data, table_members, fibre_members, document_of, IsListed, IsSame, IsTextDue}
+use Rattle.wrp_caldb.specs.Database.{Database, ModuleAt, FibreAt, TableAt, module_at, fibre_at, table_at, database_of, IsListed}
+use Rattle.wrp_calibration_text.specs.Reading.{IsReadingOf, IsTextOf}
+use Rattle.wrp_calibration_text.specs.Text.{pair_members, module_members, point_data, table_members, fibre_members, document_of, IsSame, IsTextDue}
 use Rattle.wrp_caldb.specs.declared.keys.Others.TheVariants.{Refused}
 use Rattle.wrp_migrate.specs.Laws.{IsKept, MigrationKeeps}
 use Rattle.wrp_migrate.proofs.PlainNames.{utf8_text}

@@ -12,11 +12,11 @@ use Rattle.std.specs.Option.{is_some, option_or}
 use Rattle.std.specs.Prelude.{unwrap_or, if◌then◌else◌}
 use Rattle.toml.specs.Data.{Data, string, integer, float, boolean, datetime, array, table, Items, no_items, item, Members, no_members, member, as_integer, as_str, as_table, get_member, same_key}
 use Rattle.wrp_base.proofs.Lists.{first_passed}
-use Rattle.wrp_caldb.proofs.Kept.{at_fault, each_table-map, members_in, no_key, none_parts, tables_of-members}
-use Rattle.wrp_caldb.proofs.KeptNames.{IsText, is_plain, module_text, name_read, plain_text}
-use Rattle.wrp_caldb.proofs.KeptNumbers.{IsWave, first_read, second_read}
-use Rattle.wrp_caldb.proofs.KeptPairs.{delay_keys, waves_of}
-use Rattle.wrp_caldb.proofs.ReadBack.{IsSmallTest, in_range_small, wavelength_small}
+use Rattle.wrp_calibration_text.proofs.Kept.{at_fault, each_table-map, members_in, no_key, none_parts, tables_of-members}
+use Rattle.wrp_calibration_text.proofs.KeptNames.{IsText, is_plain, module_text, name_read, plain_text}
+use Rattle.wrp_calibration_text.proofs.KeptNumbers.{IsWave, first_read, second_read}
+use Rattle.wrp_calibration_text.proofs.KeptPairs.{delay_keys, waves_of}
+use Rattle.wrp_calibration_text.proofs.ReadBack.{IsSmallTest, in_range_small, wavelength_small}
 use Rattle.wrp_caldb.specs.Calibration.{tx_key, rx_key, transition_key, module_err_key, tx_nm_key, rx_nm_key, first_wavelength, module_keys, module_name_key, pair_keys, place_in_pair, place_in_pairs, place_in_module, place_in_modules, kappa_key, fibre_err_key, table_err_key, table_key, law_of, fibre_keys, place_in_fibre, place_in_fibres, module_key, fibre_key, version_of, place_in_lists, place_in_top, IsAccepted}
 use Rattle.wrp_caldb.specs.Database.{ModuleAt, FibreAt, TableAt, database_of, fibre_of, number_at, natural_at, name_at, each_table, entries_of, entry_of, module_of}
 use Rattle.wrp_caldb.specs.Key.{Key, name_key, number_key, required_key}

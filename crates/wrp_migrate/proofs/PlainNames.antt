@@ -8,11 +8,11 @@ use Rattle.std.specs.Str.{IsUtf8}
 use Rattle.toml.specs.Data.{Data, table, Members, as_table}
 use Rattle.toml.specs.View.{items_of}
 use Rattle.wrp_caldb.specs.Calibration.{version_of}
-use Rattle.wrp_caldb.specs.Database.{Database, ModuleAt, FibreAt, TableAt, database_of, each_table, name_or_none, module_of, fibre_of}
+use Rattle.wrp_caldb.specs.Database.{Database, ModuleAt, FibreAt, TableAt, database_of, each_table, name_or_none, module_of, fibre_of, IsListed}
 use Rattle.wrp_caldb.specs.Name.{is_letter, is_name, is_name_octet}
 use Rattle.wrp_caldb.specs.Repeats.{name_in}
 use Rattle.wrp_caldb.specs.Rows.{tables_at}
-use Rattle.wrp_caldb.specs.Text.{pair_members, module_members, point_data, table_members, fibre_members, document_of, IsListed, IsTextDue}
+use Rattle.wrp_calibration_text.specs.Text.{pair_members, module_members, point_data, table_members, fibre_members, document_of, IsTextDue}
 use Rattle.wrp_caldb.specs.declared.database.Entry.{Entry}
 use Rattle.wrp_migrate.proofs.PlainOctets.{AreLow, IsLow, ItemsArePlain, MembersArePlain, utf8_document}
 

@@ -12,7 +12,7 @@ use Rattle.toml.specs.View.{items_of}
 use Rattle.toml_writer.specs.Text.{dotted_text, escaped, encoding_of, is_control, key_text, needs_escape, quotes_after, string_text}
 use Rattle.wrp_caldb.specs.Database.{Database, ModuleAt, FibreAt, TableAt, name_or_none}
 use Rattle.wrp_caldb.specs.Name.{is_letter, is_name, is_name_octet}
-use Rattle.wrp_caldb.specs.Text.{linear_members, number, pair_members, module_members, point_data, table_members, fibre_members, document_of, IsTextDue}
+use Rattle.wrp_calibration_text.specs.Text.{linear_members, number, pair_members, module_members, point_data, table_members, fibre_members, document_of, IsTextDue}
 use Rattle.wrp_caldb.specs.declared.database.Entry.{Entry}
 
 -- ---- a value on one line

@@ -4,7 +4,7 @@ use Rattle.wrp_caldb.specs.Calibration.{version_of}
 use Rattle.wrp_caldb.specs.Database.{fibre_of, module_of, database_of}
 use Rattle.wrp_caldb.specs.Repeats.{name_in}
 use Rattle.wrp_caldb.specs.Rows.{tables_at}
-use Rattle.wrp_caldb.specs.Text.{IsTextDue}
+use Rattle.wrp_calibration_text.specs.Text.{IsTextDue}
 use Rattle.wrp_caldb.specs.declared.keys.Others.TheVariants.{Refused}
 use Rattle.wrp_migrate.specs.Migration.{IsMigrated}
 use Rattle.wrp_migrate.specs.Sizes.{MigrationSize, SmallTextsFit, most_octets}

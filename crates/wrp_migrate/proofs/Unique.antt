@@ -2,14 +2,14 @@
 use Rattle.std.proofs.Common.{◌≡◌, inl, inr, ℕ, Some, None, Ok, List, refl, sym, ap, ap₂, ◌∙◌, subst, arith}
 use Rattle.std.proofs.lemmas.Option.{same_Some}
 use Rattle.toml.specs.Data.{Members}
-use Rattle.wrp_caldb.proofs.OneText.{one_text}
-use Rattle.wrp_caldb.proofs.Refusals.{least_exact}
+use Rattle.wrp_calibration_text.proofs.OneText.{one_text}
+use Rattle.wrp_calibration_text.proofs.Refusals.{least_exact}
 use Rattle.wrp_caldb.specs.Calibration.{first_place, IsAccepted}
 use Rattle.wrp_caldb.specs.Database.{Database, database_of}
 use Rattle.wrp_caldb.specs.Place.{PlaceAt, place_text}
-use Rattle.wrp_caldb.specs.Reading.{IsFaultIn, IsFaultOf, IsNoText, IsReadingOf, IsTextOf}
+use Rattle.wrp_calibration_text.specs.Reading.{IsFaultIn, IsFaultOf, IsNoText, IsReadingOf, IsTextOf}
 use Rattle.wrp_caldb.specs.Refusal.{number_of}
-use Rattle.wrp_caldb.specs.Text.{IsTextDue}
+use Rattle.wrp_calibration_text.specs.Text.{IsTextDue}
 use Rattle.wrp_caldb.specs.declared.keys.Others.TheVariants.{Refused}
 use Rattle.wrp_caldb.specs.declared.row.Code.{Code}
 use Rattle.wrp_io.specs.declared.link.LinkCall.{LinkCall}

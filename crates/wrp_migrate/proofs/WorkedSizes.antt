@@ -14,7 +14,7 @@ use Rattle.toml.specs.Text.{IsLineText, IsLinesText, IsValueText, expressions}
 use Rattle.toml_writer.specs.Text.{encoding_of, escaped, key_text, needs_escape, quotes_after, string_text}
 use Rattle.wrp_caldb.specs.Calibration.{IsAccepted}
 use Rattle.wrp_caldb.specs.Database.{database_of}
-use Rattle.wrp_caldb.specs.Text.{IsTextDue, document_of, number}
+use Rattle.wrp_calibration_text.specs.Text.{IsTextDue, document_of, number}
 use Rattle.wrp_caldb.specs.declared.keys.Others.TheVariants.{Refused}
 use Rattle.wrp_caldb.specs.declared.row.Code.TheVariants as co
 use Rattle.wrp_migrate.specs.WorkedSizes.{WorkedSizes, empty_text, one_module, one_module_text}

@@ -2,7 +2,7 @@
 use Rattle.std.specs.Prelude.{◌≡◌, ◌⊎◌, ◌<◌, ℕ, Option, List, length}
 use Rattle.std.specs.Io.KnownBytes.{IsAtEnd}
 use Rattle.wrp_caldb.specs.Database.{Database}
-use Rattle.wrp_caldb.specs.Text.{IsTextDue}
+use Rattle.wrp_calibration_text.specs.Text.{IsTextDue}
 use Rattle.wrp_migrate.specs.Migration.{IsAnswer, IsWithin}
 use Rattle.wrp_migrate.specs.declared.input.HowItEnded.{HowItEnded}
 use Rattle.wrp_migrate.specs.declared.input.HowItEnded.TheVariants.{Whole, TooLong, Failed, Memory}

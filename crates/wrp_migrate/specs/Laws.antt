@@ -3,7 +3,7 @@ use Rattle.std.specs.Prelude.{◌≡◌, ℕ, List, [], Result, Ok, Err}
 use Rattle.wrp_base.specs.declared.fault.ConfFault.{ConfFault}
 use Rattle.wrp_base.specs.declared.fault.ConfFault.TheVariants.{Fault, Memory}
 use Rattle.wrp_caldb.specs.Database.{Database, module_at, fibre_at, table_at}
-use Rattle.wrp_caldb.specs.Reading.{IsReadingOf}
+use Rattle.wrp_calibration_text.specs.Reading.{IsReadingOf}
 use Rattle.wrp_io.specs.declared.link.LinkCall.{LinkCall}
 use Rattle.wrp_migrate.specs.Migration.{migration}
 use Rattle.wrp_records.specs.declared.status.Status.{Status}

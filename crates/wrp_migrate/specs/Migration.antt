@@ -1,8 +1,8 @@
 -- What an input means to the command `migrate`: the whole of it is a calibration text (this project's profile).
 use Rattle.std.specs.Prelude.{◌≡◌, ◌<◌, ◌≤◌, ℕ, List, [], length, Ok}
 use Rattle.wrp_caldb.specs.Database.{Database}
-use Rattle.wrp_caldb.specs.Reading.{IsReadingOf, IsFaultIn}
-use Rattle.wrp_caldb.specs.Text.{IsTextDue}
+use Rattle.wrp_calibration_text.specs.Reading.{IsReadingOf, IsFaultIn}
+use Rattle.wrp_calibration_text.specs.Text.{IsTextDue}
 use Rattle.wrp_records.specs.Meaning.{Meaning}
 use Rattle.wrp_records.specs.Refusals.{bad_network_line, too_large_line}
 use Rattle.wrp_records.specs.declared.status.Status.{Status}

@@ -8,6 +8,7 @@ ghost use Rattle.wrp_records.specs.Passages.{PassesAll, passage};
 use crate::input::{HowItEnded, take_text};
 use std::alloc::Global;
 use wrp_caldb::CalDb;
+use wrp_calibration_text::{ReadCalibration, WriteCalibration};
 use wrp_io::{Sink, Source};
 use wrp_records::{Status, TOO_LARGE_LINE, answer, refuse_network};
 

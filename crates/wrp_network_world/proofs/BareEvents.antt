@@ -7,9 +7,8 @@ use Rattle.wrp_network.specs.declared.network.NodeCfg.{NodeCfg}
 use Rattle.wrp_base.specs.Lines.{parts_of}
 use Rattle.wrp_caldb.specs.Name.{same_name}
 use Rattle.wrp_config.proofs.Lists.{position-map}
-use Rattle.wrp_config.specs.Config.{bare_link, bare_node}
+use Rattle.wrp_config.specs.Same.{bare_link, bare_node, bare_cfg}
 use Rattle.wrp_config.specs.Names.{link_named}
-use Rattle.wrp_config.specs.Same.{bare_cfg}
 use Rattle.wrp_node.specs.declared.interface.Input.{Input}
 use Rattle.wrp_node.specs.declared.interface.Input.TheVariants as inputs
 use Rattle.wrp_trace.specs.Changes.{SaidAt, change_said, changes_said, named_said, nothing_said}

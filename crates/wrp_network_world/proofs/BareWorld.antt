@@ -17,9 +17,8 @@ use Rattle.wrp_caldb.specs.Database.{Database, module_at}
 use Rattle.wrp_servo.specs.Sampling.{is_holdover}
 use Rattle.wrp_config.proofs.Bare.{above_bare}
 use Rattle.wrp_config.proofs.Lists.{position-map}
-use Rattle.wrp_config.specs.Config.{bare_link, bare_node}
+use Rattle.wrp_config.specs.Same.{bare_link, bare_node, bare_cfg}
 use Rattle.wrp_config.specs.Names.{is_lower_end, is_upper_end}
-use Rattle.wrp_config.specs.Same.{bare_cfg}
 use Rattle.wrp_frame.specs.declared.fault.FrameFault.{FrameFault}
 use Rattle.wrp_node.specs.declared.interface.Input.TheVariants.{Carrier, Reset}
 use Rattle.wrp_node.specs.NodeAt.{locked_of, numbers_of, state_of, servo_setting_of}

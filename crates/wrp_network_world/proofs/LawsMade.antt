@@ -7,9 +7,8 @@ use Rattle.wrp_base.proofs.Naturals.{le_of_same}
 use Rattle.wrp_caldb.specs.Database.{Database}
 use Rattle.wrp_config.proofs.Bare.{above_bare, above_some}
 use Rattle.wrp_config.specs.Accepted.{IsAccepted}
-use Rattle.wrp_config.specs.Config.{bare_link}
+use Rattle.wrp_config.specs.Same.{bare_link, IsSameNetwork}
 use Rattle.wrp_config.specs.declared.network.Network.{Network}
-use Rattle.wrp_config.specs.Same.{IsSameNetwork}
 use Rattle.wrp_law.specs.declared.link_law.LinkLaw.{LinkLaw}
 use Rattle.wrp_law.specs.declared.delay.LawKind.{LawKind}
 use Rattle.wrp_law.specs.Law.{IsNear, KeepsFact, LawOf}

@@ -14,12 +14,12 @@ use Rattle.wrp_law.specs.declared.delay.LawKind.TheVariants.{Linear}
 use Rattle.wrp_law.specs.Law.{IsNear}
 use Rattle.wrp_law.proofs.Tables.{table_value-near}
 use Rattle.wrp_node.specs.NodeAt.{servo_setting_of}
-use Rattle.wrp_tracking.specs.ErrorSum.{IsShare}
-use Rattle.wrp_truth.specs.Fours.{IsNearAnswer}
+use Rattle.wrp_tracking_laws.specs.ErrorSum.{IsShare}
+use Rattle.wrp_bound_laws.specs.Fours.{IsNearAnswer}
 use Rattle.wrp_course.specs.Run.{IsAnswered}
 use Rattle.wrp_course.specs.Setting.{Setting, node_setting_of}
 use Rattle.wrp_course.specs.WorldAt.{WorldAt}
-use Rattle.wrp_truth.proofs.Runs.NearAnswers.{HopOf, hop_of, near_calls}
+use Rattle.wrp_bound_laws.proofs.Runs.NearAnswers.{HopOf, hop_of, near_calls}
 use Rattle.wrp_world.proofs.NearLaws.{share_of}
 use Rattle.wrp_network_world.specs.NetworkSetting.{answers_in, setting_at}
 use Rattle.wrp_replay.specs.DownLaw.{down_by, down_over, greatest_by, greatest_over, least_by, least_over}

@@ -4,7 +4,7 @@ use Rattle.wrp_network.specs.declared.configuration.NetCfg.{NetCfg}
 use Rattle.wrp_network.specs.Network.{link_above}
 use Rattle.wrp_caldb.specs.Database.{Database}
 use Rattle.wrp_config.specs.declared.network.Network.{Network}
-use Rattle.wrp_config.specs.Reading.{IsReadingOf}
+use Rattle.wrp_network_text.specs.Reading.{IsReadingOf}
 use Rattle.wrp_node.specs.OneRun.{answers_by}
 use Rattle.wrp_node.specs.Set.{set_of}
 use Rattle.wrp_trace.specs.LineSetting.{line_setting_in}

@@ -12,7 +12,7 @@ use Rattle.wrp_base.specs.declared.message.PtpMsg.{PtpMsg}
 use Rattle.wrp_base.specs.declared.message.WrMsg.{WrMsg}
 use Rattle.wrp_network.specs.declared.network.LinkCfg.{LinkCfg}
 use Rattle.wrp_network.specs.Network.{End}
-use Rattle.wrp_handshake.specs.Ends.{marked}
+use Rattle.wrp_handshake_laws.specs.Ends.{marked}
 use Rattle.wrp_link.specs.Table.{is_same}
 use Rattle.wrp_node.specs.declared.interface.Output.{Output}
 use Rattle.wrp_node.specs.NodeAt.{link_at}

@@ -14,8 +14,7 @@ use Rattle.wrp_network.specs.Network.{name_at, node_count}
 use Rattle.wrp_caldb.specs.Name.{same_name}
 use Rattle.wrp_config.specs.Accepted.{HasNames}
 use Rattle.wrp_config.specs.Names.{link_named, node_named}
-use Rattle.wrp_config.proofs.Lists.{IsFoundAt, found_place}
-use Rattle.wrp_config.proofs.Texts.{same_is}
+use Rattle.wrp_config.proofs.Lists.{IsFoundAt, found_place, same_is}
 use Rattle.arrayvec.specs.ArrayVec.{ArrayVec as Items}
 use Rattle.wrp_base.proofs.Lists.{has_item}
 use Rattle.wrp_course.specs.declared.event.Event.{Event}

@@ -12,7 +12,7 @@ use Rattle.wrp_base.proofs.Lists.{has_item}
 use Rattle.wrp_caldb.specs.Name.{is_name, same_name}
 use Rattle.wrp_config.specs.Accepted.{HasNames}
 use Rattle.wrp_config.specs.Names.{node_named}
-use Rattle.wrp_config.proofs.Texts.{same_is, same_refl}
+use Rattle.wrp_config.proofs.Lists.{same_is, same_refl}
 use Rattle.wrp_fields.specs.Numbers.{kept_in, number_in, number_of}
 use Rattle.wrp_trace.proofs.EventsFit.{in_range}
 use Rattle.wrp_trace.proofs.NamesFound.{node_found}

@@ -16,10 +16,9 @@ use Rattle.wrp_caldb.specs.Database.{Database}
 use Rattle.wrp_caldb.specs.Name.{same_name}
 use Rattle.wrp_config.proofs.Bare.{above_bare, over_bare}
 use Rattle.wrp_config.proofs.Lists.{position-map}
-use Rattle.wrp_config.specs.Config.{bare_node, bare_link}
+use Rattle.wrp_config.specs.Same.{bare_node, bare_link, bare_cfg}
 use Rattle.wrp_config.specs.Names as names
 use Rattle.wrp_config.specs.Names.{node_named, link_at, pair_at, pair_of}
-use Rattle.wrp_config.specs.Same.{bare_cfg}
 use Rattle.wrp_node.specs.Set.{identity_of, ports_at, ports_of, set_of, steps_up, top_up}
 use Rattle.wrp_trace.specs.declared.kinds.InputKind.{InputKind}
 use Rattle.wrp_trace.specs.declared.kinds.InputKind.TheVariants as kinds

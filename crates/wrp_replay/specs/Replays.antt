@@ -5,7 +5,7 @@ use Rattle.arrayvec.specs.ArrayString.{ArrayString}
 use Rattle.wrp_base.specs.declared.fault.ConfFault.TheVariants.{Fault}
 use Rattle.wrp_base.specs.declared.fault.TraceFault.{TraceFault}
 use Rattle.wrp_config.specs.declared.network.Network.{Network}
-use Rattle.wrp_config.specs.Reading.{IsReadingOf}
+use Rattle.wrp_network_text.specs.Reading.{IsReadingOf}
 use Rattle.wrp_config.specs.Same.{bare_cfg}
 use Rattle.wrp_node.specs.NodeAt.{Taken}
 use Rattle.wrp_node.specs.NodeRun.{node_after}

@@ -5,7 +5,7 @@ use Rattle.wrp_network.specs.declared.configuration.NetCfg.{NetCfg}
 use Rattle.wrp_network.specs.Network.{node_count}
 use Rattle.wrp_config.proofs.Bare.{count_bare}
 use Rattle.wrp_config.specs.Names.{node_named}
-use Rattle.wrp_config.specs.Reading.{IsReadingOf}
+use Rattle.wrp_network_text.specs.Reading.{IsReadingOf}
 use Rattle.wrp_config.specs.Same.{IsSameNetwork, bare_cfg}
 use Rattle.wrp_course.specs.Setting.{Setting}
 use Rattle.wrp_records.specs.declared.status.Status.{Status}

@@ -11,9 +11,9 @@ use Rattle.wrp_base.specs.declared.fault.TraceFault.{TraceFault}
 use Rattle.wrp_base.proofs.Lists.{heads, tails}
 use Rattle.wrp_bounds.specs.Bounds.{path_of}
 use Rattle.wrp_config.specs.Accepted.{HasNames}
-use Rattle.wrp_config.specs.Config.{IsNetworkOf}
-use Rattle.wrp_config.specs.Same.{ReadingIsAccepted}
-use Rattle.wrp_caldb.specs.Reading.{IsTextOf}
+use Rattle.wrp_network_text.specs.Config.{IsNetworkOf}
+use Rattle.wrp_network_text.specs.SameAnswer.{ReadingIsAccepted}
+use Rattle.wrp_calibration_text.specs.Reading.{IsTextOf}
 use Rattle.wrp_course.specs.declared.event.Event.{Event}
 use Rattle.wrp_course.specs.Given.{NodeStepAt}
 use Rattle.wrp_course.specs.Run.{Happened, steps_at, world_after}
@@ -37,7 +37,7 @@ use Rattle.wrp_loop.specs.Loops.{plan_of}
 use Rattle.wrp_trace.specs.EventPrinting.{event_text}
 use Rattle.wrp_trace.specs.Events.{EventsCanCome, event_read}
 use Rattle.wrp_trace.proofs.EventsReadBack.{events_back}
-use Rattle.wrp_truth.specs.Chains.{AllFit}
+use Rattle.wrp_bound_laws.specs.Chains.{AllFit}
 use Rattle.wrp_audit.specs.Audited.{AreEvents}
 use Rattle.wrp_network_world.specs.NetworkSetting.{IsSettingOf}
 use Rattle.wrp_audit.specs.AuditLaws.{OneAudit}

@@ -4,8 +4,8 @@ use Rattle.std.specs.Prelude.{◌≡◌, ◌⊎◌, ℕ, List, [], ◌∷◌, �
 use Rattle.std.specs.List.{AllByRecursion}
 use Rattle.toml.specs.Data.{Members}
 use Rattle.wrp_network.specs.declared.configuration.NetCfg.{NetCfg}
-use Rattle.wrp_caldb.specs.Reading.{IsTextOf}
-use Rattle.wrp_config.specs.Config.{IsNetworkOf}
+use Rattle.wrp_calibration_text.specs.Reading.{IsTextOf}
+use Rattle.wrp_network_text.specs.Config.{IsNetworkOf}
 use Rattle.wrp_loop.specs.LoopText.{NoneIsMarked}
 use Rattle.wrp_records.specs.Lines.{content_of, lines_of}
 use Rattle.wrp_printed_laws.specs.Offsets.{AllFollow, Seen}

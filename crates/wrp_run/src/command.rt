@@ -36,9 +36,9 @@ use wrp_asked::{
 };
 use wrp_audit::one_audit;
 use wrp_commands::Command;
-use wrp_config::reading_is_accepted;
 use wrp_io::{Link, Sink, Source};
 use wrp_loop::loop_is_audited;
+use wrp_network_text::reading_is_accepted;
 use wrp_node::one_run;
 use wrp_printed_laws::{offsets_follow, steps_come_synced};
 use wrp_records::{Status, answer};

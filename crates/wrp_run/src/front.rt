@@ -2,7 +2,7 @@
 ghost use Rattle.std.specs.Prelude.{◌≡◌, Err, IfErr, IfOk, List, Ok, OnOk, [], false, ℕ};
 ghost use Rattle.std.specs.Io.KnownBytes.{IsAtEnd};
 ghost use Rattle.wrp_config.specs.Accepted.{IsAccepted};
-ghost use Rattle.wrp_config.specs.Reading.{IsReadingOf};
+ghost use Rattle.wrp_network_text.specs.Reading.{IsReadingOf};
 ghost use Rattle.wrp_records.specs.declared.status.Status.{Status};
 ghost use Rattle.wrp_records.specs.Passages.{FailsBy, passage};
 ghost use Rattle.wrp_asked.specs.Answer.{IsNetworked};
@@ -15,6 +15,7 @@ use wrp_asked::{HowItEnded, NetworkText, take_network};
 use wrp_base::ConfFault;
 use wrp_config::Network;
 use wrp_io::{Sink, Source};
+use wrp_network_text::ReadNetwork;
 use wrp_records::{Reader, Status, TOO_LARGE_LINE, answer, refuse_network};
 
 /// The network that stands in front of the records, and its text.

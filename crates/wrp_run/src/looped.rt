@@ -2,7 +2,7 @@
 ghost use Rattle.std.specs.Prelude.{◌≡◌, ◌≤ℤ◌, [], ℕ, Ok, Option, List, false, true};
 ghost use Rattle.std.specs.Io.KnownBytes.{IsAtEnd};
 ghost use Rattle.wrp_config.specs.Accepted.{IsAccepted};
-ghost use Rattle.wrp_config.specs.Reading.{IsReadingOf};
+ghost use Rattle.wrp_network_text.specs.Reading.{IsReadingOf};
 ghost use Rattle.wrp_config.specs.Same.{IsSameNetwork};
 ghost use Rattle.wrp_law.specs.Law.{IsNear};
 ghost use Rattle.wrp_law.specs.LinkLaw.{IsSound, down_of, error_of, kind_of, least_of, most_of};

@@ -4,7 +4,7 @@ ghost use Rattle.std.specs.Prelude.{◌≡◌, ◌≤ℤ◌, ◌<◌, ◌∷◌,
 ghost use Rattle.std.specs.Io.KnownBytes.{IsAtEnd};
 ghost use Rattle.wrp_config.specs.Accepted.{IsAccepted};
 ghost use Rattle.wrp_config.specs.Names.{node_named};
-ghost use Rattle.wrp_config.specs.Reading.{IsReadingOf};
+ghost use Rattle.wrp_network_text.specs.Reading.{IsReadingOf};
 ghost use Rattle.wrp_config.specs.Same.{IsSameNetwork};
 ghost use Rattle.wrp_law.specs.Law.{IsNear};
 ghost use Rattle.wrp_law.specs.LinkLaw.{IsSound, down_of, error_of, kind_of, least_of, most_of};

@@ -12,6 +12,7 @@ use crate::running::{AT_ONCE, borrowed, ran};
 use std::alloc::{AllocError, Global};
 use wrp_base::ConfFault;
 use wrp_caldb::{CalDb, Entry, ListedFibre};
+use wrp_calibration_text::ReadCalibration;
 use wrp_run::Status;
 use wrp_suite::{Answer, Case, Fault};
 

@@ -14,7 +14,7 @@ use Rattle.wrp_base.proofs.Lists.{has_item}
 use Rattle.wrp_base.proofs.Naturals.{le_one_more, nat_le_self}
 use Rattle.wrp_bounds.specs.Times.{longest_tick, reach, shortest_tick}
 use Rattle.wrp_frame.specs.declared.fault.FrameFault.{FrameFault}
-use Rattle.wrp_config.proofs.Taken.{none_at}
+use Rattle.wrp_config.proofs.Lists.{none_at}
 use Rattle.wrp_course.specs.declared.event.Event.TheVariants.{Down, Cut}
 use Rattle.wrp_course.specs.Checks.{needs}
 use Rattle.wrp_course.specs.EventAt.{IsEventOf, link_count}

@@ -13,7 +13,7 @@ use Rattle.wrp_base.proofs.Integers.{int_le_trans}
 use Rattle.wrp_base.proofs.Naturals.{nat_le_self}
 use Rattle.wrp_bounds.specs.Times.{longest_tick, shortest_tick}
 use Rattle.wrp_frame.specs.declared.fault.FrameFault.{FrameFault}
-use Rattle.wrp_config.proofs.Taken.{none_at}
+use Rattle.wrp_config.proofs.Lists.{none_at}
 use Rattle.wrp_course.specs.declared.event.Event.{Event}
 use Rattle.wrp_course.specs.declared.event.Event.TheVariants.{Tick}
 use Rattle.wrp_course.specs.Checks.{Holds}

@@ -6,8 +6,7 @@ use Rattle.wrp_base.specs.declared.fault.TraceFault.{TraceFault}
 use Rattle.wrp_base.specs.Lines.{parts_of}
 use Rattle.wrp_network.specs.Network.{link_above}
 use Rattle.wrp_config.proofs.Bare.{above_bare}
-use Rattle.wrp_config.specs.Config.{bare_link, bare_node}
-use Rattle.wrp_config.specs.Same.{bare_cfg}
+use Rattle.wrp_config.specs.Same.{bare_link, bare_node, bare_cfg}
 use Rattle.wrp_names.specs.Fields.{node_at}
 use Rattle.wrp_fields.specs.Reading.{field_of, name_or_fault, ◌>>=◌}
 use Rattle.wrp_scene.specs.declared.scene.fault.FaultKind.{FaultKind}

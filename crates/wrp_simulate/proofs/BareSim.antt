@@ -11,8 +11,7 @@ use Rattle.wrp_network.specs.declared.network.LinkCfg.{LinkCfg}
 use Rattle.wrp_base.specs.declared.time.Raw.{Raw}
 use Rattle.wrp_network.specs.Network.{End, node_count}
 use Rattle.wrp_base.specs.Link.{other_of}
-use Rattle.wrp_config.specs.Config.{bare_link, bare_node}
-use Rattle.wrp_config.specs.Same.{bare_cfg}
+use Rattle.wrp_config.specs.Same.{bare_link, bare_node, bare_cfg}
 use Rattle.wrp_lines.specs.Lines.{output_line_of, sum_line_of}
 use Rattle.wrp_node.specs.NodeAt.{dac_of, state_of}
 use Rattle.wrp_phase.specs.BeatPattern.{true_step}

@@ -16,6 +16,7 @@ use crate::words::{natural, text_of};
 use std::alloc::{AllocError, Global};
 use wrp_base::{ConfFault, Fibre, Module};
 use wrp_caldb::CalDb;
+use wrp_calibration_text::{ReadCalibration, WriteCalibration};
 use wrp_suite::{Answer, Case, Fault};
 
 // A wavelength.

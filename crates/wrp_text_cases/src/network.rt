@@ -20,6 +20,7 @@ use crate::telling::push_none;
 use crate::words::natural;
 use std::alloc::{AllocError, Global};
 use wrp_config::Network;
+use wrp_network_text::ReadNetwork;
 use wrp_suite::{Answer, Case, Fault};
 
 // A number that a name has under a key.

@@ -16,7 +16,7 @@ use Rattle.wrp_network.specs.declared.network.LinkCfg.{LinkCfg}
 use Rattle.wrp_network.specs.declared.network.NodeCfg.{NodeCfg}
 use Rattle.wrp_caldb.specs.Name.{is_name, same_name}
 use Rattle.wrp_config.specs.Names.{link_named, node_named}
-use Rattle.wrp_config.specs.Config.{bare}
+use Rattle.wrp_config.specs.Same.{bare}
 use Rattle.wrp_course.specs.declared.event.Event.{Event}
 use Rattle.wrp_course.specs.declared.event.Event.TheVariants as events
 use Rattle.wrp_course.specs.declared.event.Swap.{Swap}

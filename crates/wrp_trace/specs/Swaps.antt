@@ -6,7 +6,7 @@ use Rattle.arrayvec.specs.ArrayString.{ArrayString}
 use Rattle.arrayvec.specs.ArrayVec.{ArrayVec}
 use Rattle.wrp_base.specs.declared.fault.TraceFault.{TraceFault}
 use Rattle.wrp_caldb.specs.Name.{is_name}
-use Rattle.wrp_config.specs.Config.{bare}
+use Rattle.wrp_config.specs.Same.{bare}
 use Rattle.wrp_course.specs.declared.event.Swap.{Swap}
 use Rattle.wrp_trace.specs.EventFields.{before, behind}
 use Rattle.wrp_fields.specs.Numbers.{natural_in}

@@ -15,6 +15,7 @@ use wrp_base::{ConfFault, Tau};
 use wrp_config::{Network, link_above};
 use wrp_law::{DelayLaw, LawKind};
 use wrp_network::{LinkCfg, NetCfg};
+use wrp_network_text::ReadNetwork;
 use wrp_world::{Event, NodeOut, Refused, World};
 
 /// Why there is no world under test.

@@ -15,14 +15,14 @@ use Rattle.wrp_node.specs.NodeAt.{NodeAt, servo_setting_of}
 use Rattle.wrp_node.specs.StandsFor.{NodeOf}
 use Rattle.wrp_servo.specs.Call.{Call, ServoSetting}
 use Rattle.wrp_servo.specs.Servo.{AllAnswered}
-use Rattle.wrp_tracking.specs.ErrorSum.{IsShare}
+use Rattle.wrp_tracking_laws.specs.ErrorSum.{IsShare}
 use Rattle.wrp_course.specs.Run.{IsAnswered}
 use Rattle.wrp_course.specs.Runs.{IsNetwork}
 use Rattle.wrp_course.specs.Setting.{Setting, node_setting_of}
 use Rattle.wrp_course.specs.WorldAt.{WorldAt}
-use Rattle.wrp_truth.specs.Fours.{IsNearAnswer}
-use Rattle.wrp_truth.proofs.Hops.HopsUp.{inside_below}
-use Rattle.wrp_truth.proofs.Runs.NearAnswers.{HopOf, each_call, hop_of, near_calls}
+use Rattle.wrp_bound_laws.specs.Fours.{IsNearAnswer}
+use Rattle.wrp_bound_laws.proofs.Hops.HopsUp.{inside_below}
+use Rattle.wrp_bound_laws.proofs.Runs.NearAnswers.{HopOf, each_call, hop_of, near_calls}
 use Rattle.wrp_world.specs.InTrueRun.{HasFittingLaws}
 use Rattle.wrp_world.specs.New.{FitsLaw}
 use Rattle.wrp_world.specs.StandsFor.{NodeIs, StandsFor, WorldOf}

@@ -16,7 +16,7 @@ use Rattle.wrp_course.specs.WorldAt.{WorldAt}
 use Rattle.wrp_node.specs.NodeAt.{locked_of, servo_at, slave_of, state_of}
 use Rattle.wrp_plant.specs.Tried.{kept_rate, steered_rate}
 use Rattle.wrp_plant.proofs.TriedRates.{rate_told}
-use Rattle.wrp_truth.proofs.Motion.Moving.{no_slave}
+use Rattle.wrp_bound_laws.proofs.Motion.Moving.{no_slave}
 use Rattle.wrp_world.specs.StandsFor.{IsValid, StandsFor, WorldOf}
 
 -- a world is of a network

@@ -18,7 +18,7 @@ use Rattle.wrp_course.specs.Run.{Happened, world_after}
 use Rattle.wrp_course.specs.Setting.{Setting}
 use Rattle.wrp_course.specs.WorldAt.{new_world}
 use Rattle.wrp_plant.specs.Plant.{Each}
-use Rattle.wrp_truth.specs.Bounds.{TrueRun}
+use Rattle.wrp_bound_laws.specs.Bounds.{TrueRun}
 use Rattle.wrp_world.specs.EventHolds.{LinksHoldInRuns, TracksHoldInRuns}
 use Rattle.wrp_world.specs.HasLaws.{HasLaws}
 use Rattle.wrp_world.specs.InRun.{InRun}

@@ -9,8 +9,8 @@ use Rattle.wrp_course.specs.Judged.{AllAreJudged}
 use Rattle.wrp_course.specs.Run.{Happened, steps_at, world_after}
 use Rattle.wrp_course.specs.Runs.{IsRun}
 use Rattle.wrp_course.specs.Setting.{Setting}
-use Rattle.wrp_truth.specs.Bounds.{AllAreBounded, IsTrueStep, TrueRun}
-use Rattle.wrp_truth.specs.Chains.{AllHaveConstants}
+use Rattle.wrp_bound_laws.specs.Bounds.{AllAreBounded, IsTrueStep, TrueRun}
+use Rattle.wrp_bound_laws.specs.Chains.{AllHaveConstants}
 
 -- after the event each port in WR_LINK_ON has earned it: its peer went through the steps that this requires, in that same
 -- handshake, and a slave knows the deltas of the modules that are in place; each port is where its marks lead, and the verdict

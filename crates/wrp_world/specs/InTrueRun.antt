@@ -6,7 +6,7 @@ use Rattle.wrp_network.specs.Network.{node_count}
 use Rattle.wrp_course.specs.Run.{Happened}
 use Rattle.wrp_course.specs.Setting.{Setting}
 use Rattle.wrp_plant.specs.Plant.{Each}
-use Rattle.wrp_truth.specs.Chains.{AllFit}
+use Rattle.wrp_bound_laws.specs.Chains.{AllFit}
 use Rattle.wrp_world.specs.InRun.{InRun}
 use Rattle.wrp_world.specs.New.{FitsLaw}
 use Rattle.wrp_world.specs.StandsFor.{WorldOf}

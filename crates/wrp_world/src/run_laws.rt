@@ -2,8 +2,8 @@
 ghost use Rattle.wrp_world.specs.EventHolds.{LinksHoldInRuns, TracksHoldInRuns};
 ghost use Rattle.wrp_world.specs.InRun.{NewIsInRun, StepAddsToRun};
 
+use wrp_bound_laws::{chain_has_constant, offsets_keep_bounds, reports_are_within};
 use wrp_course::{dropped_frames_leave_a_count, ports_are_judged, reported_link_on_is_earned};
-use wrp_truth::{chain_has_constant, offsets_keep_bounds, reports_are_within};
 
 /// What holds of each event of every run: each port in WR_LINK_ON has earned it, and so has each that is
 /// reported to be; each port is where its marks lead, and judged Ok exactly in WR_LINK_ON; and a frame that

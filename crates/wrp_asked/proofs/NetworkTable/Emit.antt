@@ -2,7 +2,7 @@
 use Rattle.std.proofs.Common.{◌≡◌, ◌∙◌, ap, ap₂, sym, subst, ℕ, Some, None, Ok, List}
 use Rattle.std.proofs.lemmas.Option.{same_Some}
 use Rattle.wrp_config.specs.Names.{node_named}
-use Rattle.wrp_config.specs.Reading.{IsReadingOf}
+use Rattle.wrp_network_text.specs.Reading.{IsReadingOf}
 use Rattle.wrp_config.specs.declared.network.Network.{Network}
 use Rattle.wrp_course.specs.Setting.{Setting}
 use Rattle.wrp_network_world.proofs.BareWorld.{bare_setting}

@@ -10,7 +10,7 @@ ghost use Rattle.wrp_course.specs.Setting.{Setting};
 ghost use Rattle.wrp_world.specs.StandsFor.{IsValid, StandsFor, Tells};
 ghost use Rattle.wrp_course.specs.WorldAt.{WorldAt};
 
-use super::pure::{is_at, is_within, raw_at};
+use super::numbers::{is_at, is_within, raw_at};
 use super::state::{Handed, State};
 use crate::draws::Draws;
 use wrp_base::{Raw, Tau};

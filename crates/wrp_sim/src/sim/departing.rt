@@ -16,7 +16,7 @@ ghost use Rattle.wrp_course.specs.Setting.{Setting, end_of, links_of};
 ghost use Rattle.wrp_world.specs.StandsFor.{IsValid, StandsFor, Tells};
 ghost use Rattle.wrp_course.specs.WorldAt.{WorldAt};
 
-use super::pure::{is_at, is_within, stamp_at, thousands};
+use super::numbers::{is_at, is_within, stamp_at, thousands};
 use super::state::State;
 use crate::draws::Draws;
 use wrp_base::{Role, Tau};

@@ -11,7 +11,7 @@ ghost use Rattle.wrp_course.specs.Setting.{Setting};
 ghost use Rattle.wrp_world.specs.StandsFor.{IsValid, StandsFor, Tells};
 ghost use Rattle.wrp_course.specs.WorldAt.{WorldAt};
 
-use super::pure::is_by;
+use super::numbers::is_by;
 use super::state::State;
 use wrp_base::sum;
 use wrp_scene::{Fault, FaultKind};

@@ -10,7 +10,7 @@ ghost use Rattle.wrp_course.specs.Setting.{Setting, from_on, nodes_of};
 ghost use Rattle.wrp_world.specs.StandsFor.{IsValid, StandsFor, Tells};
 ghost use Rattle.wrp_course.specs.WorldAt.{WorldAt};
 
-use super::pure::{drift_at, held_to, is_by, own_rate};
+use super::numbers::{drift_at, held_to, is_by, own_rate};
 use super::state::State;
 use arrayvec::ArrayVec;
 use wrp_base::{Tau, difference, narrow, sum};

@@ -11,7 +11,7 @@ ghost use Rattle.wrp_course.specs.Setting.{Setting, link_of};
 ghost use Rattle.wrp_world.specs.StandsFor.{IsValid, StandsFor, Tells};
 ghost use Rattle.wrp_course.specs.WorldAt.{WorldAt};
 
-use super::pure::{base_before, bits_behind, true_step};
+use super::numbers::{base_before, bits_behind, true_step};
 use super::state::State;
 use crate::draws::Draws;
 use wrp_base::{Module, Role, Tau, sum};

@@ -8,7 +8,7 @@ ghost use Rattle.wrp_course.specs.Setting.{Setting, nodes_of};
 ghost use Rattle.wrp_world.specs.StandsFor.{IsValid, StandsFor};
 ghost use Rattle.wrp_course.specs.WorldAt.{WorldAt};
 
-use super::pure::is_at;
+use super::numbers::is_at;
 use super::state::State;
 use wrp_base::Tau;
 use wrp_world::{Event, World};

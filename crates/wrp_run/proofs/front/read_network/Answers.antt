@@ -1,7 +1,7 @@
 -- What is kept is what was read.
 use Rattle.std.proofs.Common.{Ok, subst, sym}
 use Rattle.wrp_config.specs.declared.network.Network.{Network}
-use Rattle.wrp_config.specs.Reading.{IsReadingOf}
+use Rattle.wrp_network_text.specs.Reading.{IsReadingOf}
 use Rattle.wrp_run.proofs.front.read_network.Goals as goal
 
 pub returns-in-Ok-new-clause-reads : goal.returns-in-Ok-new-clause-reads

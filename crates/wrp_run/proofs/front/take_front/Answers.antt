@@ -1,7 +1,7 @@
 -- How the run ends where what stands in front is refused, or cannot be taken.
 use Rattle.std.proofs.Common.{ℕ, List, Ok, Err, subst}
 use Rattle.std.proofs.KnownBytes.{Appends-nil}
-use Rattle.wrp_config.specs.Reading.{IsReadingOf}
+use Rattle.wrp_network_text.specs.Reading.{IsReadingOf}
 use Rattle.wrp_asked.specs.declared.network_text.HowItEnded.{HowItEnded}
 use Rattle.wrp_asked.specs.Ends.{Run}
 use Rattle.wrp_asked.specs.Input.{NetworkOutcome}

@@ -1,8 +1,8 @@
 -- The work on a network, told of the whole input; or its text cannot be read once more.
 use Rattle.std.proofs.Common.{ℕ, List, Ok, Err, refl, subst, sym}
-use Rattle.wrp_config.proofs.OneReading.{one_reading}
+use Rattle.wrp_network_text.proofs.OneReading.{one_reading}
 use Rattle.wrp_config.specs.declared.network.Network.{Network}
-use Rattle.wrp_config.specs.Reading.{IsReadingOf}
+use Rattle.wrp_network_text.specs.Reading.{IsReadingOf}
 use Rattle.wrp_config.specs.Same.{IsSameNetwork}
 use Rattle.wrp_records.specs.Passages.{passage}
 use Rattle.wrp_network_world.specs.NetworkSetting.{setting_in}

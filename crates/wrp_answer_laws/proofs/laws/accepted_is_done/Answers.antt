@@ -1,0 +1,6 @@
+-- By the lemma of its own.
+use Rattle.wrp_answer_laws.proofs.AcceptedLines.{accepted_is_done}
+use Rattle.wrp_answer_laws.proofs.laws.accepted_is_done.Goals as goal
+
+pub returns : goal.returns
+returns c = accepted_is_done c.reading_is_accepted.ensures

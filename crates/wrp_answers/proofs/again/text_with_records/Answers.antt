@@ -1,6 +1,0 @@
--- By the lemma of its own.
-use Rattle.wrp_answers.proofs.TextRecords.{text_with_records}
-use Rattle.wrp_answers.proofs.again.text_with_records.Goals as goal
-
-pub returns : goal.returns
-returns c = text_with_records

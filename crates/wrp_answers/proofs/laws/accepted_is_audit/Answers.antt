@@ -1,6 +1,0 @@
--- By the lemma of its own.
-use Rattle.wrp_answers.proofs.AcceptedLines.{accepted_is_audit}
-use Rattle.wrp_answers.proofs.laws.accepted_is_audit.Goals as goal
-
-pub returns : goal.returns
-returns c = accepted_is_audit c.reading_is_accepted.ensures

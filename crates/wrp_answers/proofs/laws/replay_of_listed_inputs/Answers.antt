@@ -1,6 +1,0 @@
--- By the lemma of its own.
-use Rattle.wrp_answers.proofs.Listed.{replay_of_listed}
-use Rattle.wrp_answers.proofs.laws.replay_of_listed_inputs.Goals as goal
-
-pub returns : goal.returns
-returns c = replay_of_listed c.replay_of_emitted_inputs.ensures

@@ -1,6 +1,0 @@
--- By the lemma of its own.
-use Rattle.wrp_answers.proofs.SimulatedHeard.{simulated_is_heard}
-use Rattle.wrp_answers.proofs.laws.simulated_is_heard.Goals as goal
-
-pub returns : goal.returns
-returns c = simulated_is_heard c.reading_is_accepted.ensures c.simulator_keeps_the_bounds.ensures.runs

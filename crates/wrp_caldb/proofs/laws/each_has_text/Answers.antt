@@ -1,5 +1,0 @@
-use Rattle.wrp_caldb.proofs.OneText.{each_has_text as law}
-use Rattle.wrp_caldb.proofs.laws.each_has_text.Goals as goal
-
-pub returns : goal.returns
-returns c = law

@@ -1,5 +1,0 @@
-use Rattle.wrp_config.proofs.EachRead.{each_is_read as law}
-use Rattle.wrp_config.proofs.laws.each_is_read.Goals as goal
-
-pub returns : goal.returns
-returns c = law

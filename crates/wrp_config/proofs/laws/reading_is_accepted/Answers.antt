@@ -1,5 +1,0 @@
-use Rattle.wrp_config.proofs.OneReading.{reading_is_accepted as law}
-use Rattle.wrp_config.proofs.laws.reading_is_accepted.Goals as goal
-
-pub returns : goal.returns
-returns c = law

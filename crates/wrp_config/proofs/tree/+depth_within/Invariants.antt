@@ -1,4 +1,0 @@
-use Rattle.wrp_config.proofs.tree.+depth_within.Given as goal
-
-abbrev pub decreases-depth_within : goal.decreases-depth_within
-decreases-depth_within l = l.most

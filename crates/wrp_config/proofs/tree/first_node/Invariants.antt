@@ -1,5 +1,0 @@
-use Rattle.wrp_config.specs.Tree.{NoneBefore}
-use Rattle.wrp_config.proofs.tree.first_node.Given as goal
-
-abbrev pub invariant-loop-n : goal.invariant-loop-n
-invariant-loop-n l = NoneBefore l.cfg l.fault l.n

@@ -1,6 +1,0 @@
--- By the lemma of its own.
-use Rattle.wrp_due.proofs.Measuring.{step_answered}
-use Rattle.wrp_due.proofs.laws.each_input_is_answered.Goals as goal
-
-pub returns : goal.returns
-returns c = step_answered

@@ -1,6 +1,0 @@
--- By the lemma of its own.
-use Rattle.wrp_frame.proofs.Saying.{each_says}
-use Rattle.wrp_due.proofs.laws.each_says.Goals as goal
-
-pub returns : goal.returns
-returns c = each_says

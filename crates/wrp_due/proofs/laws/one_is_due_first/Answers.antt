@@ -1,6 +1,0 @@
--- By the lemma of its own.
-use Rattle.wrp_due.proofs.Arriving.{next_arrival}
-use Rattle.wrp_due.proofs.laws.one_is_due_first.Goals as goal
-
-pub returns : goal.returns
-returns c = next_arrival

@@ -1,5 +1,0 @@
-use Rattle.wrp_handshake.proofs.Proved as proof
-use Rattle.wrp_handshake.proofs.laws.master_stays_from_lock.Goals as goal
-
-pub returns : goal.returns
-returns c = proof.master_stays_from_lock

@@ -1,5 +1,0 @@
-use Rattle.wrp_handshake.proofs.Proved as proof
-use Rattle.wrp_handshake.proofs.laws.quiet_time_outlives_frames.Goals as goal
-
-pub returns : goal.returns
-returns c = proof.quiet_time_outlives_frames

@@ -1,5 +1,0 @@
-use Rattle.wrp_handshake.proofs.Worked as proof
-use Rattle.wrp_handshake.proofs.laws.worked_handshake.Goals as goal
-
-pub returns : goal.returns
-returns c = proof.worked_handshake

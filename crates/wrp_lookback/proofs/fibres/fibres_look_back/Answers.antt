@@ -1,6 +1,0 @@
--- The frames on a fibre, looking back.
-use Rattle.wrp_lookback.proofs.FibreLaws.{fibres_look_back}
-use Rattle.wrp_lookback.proofs.fibres.fibres_look_back.Goals as goal
-
-pub returns : goal.returns
-returns c = fibres_look_back

@@ -1,0 +1,9 @@
+//! The frames on fibres, by looking back over the list of events. The function here computes nothing: its
+//! contract is the law.
+ghost use Rattle.wrp_lookback_laws.specs.Fibres.{FibresLookBack};
+
+/// A frame that departed is on its fibre exactly where none of the events since was its arrival, that of a
+/// younger frame of its direction, or one by which its link lost what was on its fibre.
+pub fn fibres_look_back()
+    ensures { FibresLookBack }
+{}

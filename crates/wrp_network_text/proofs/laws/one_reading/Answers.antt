@@ -1,0 +1,5 @@
+use Rattle.wrp_network_text.proofs.OneReading.{one_reading as law}
+use Rattle.wrp_network_text.proofs.laws.one_reading.Goals as goal
+
+pub returns : goal.returns
+returns c = law

@@ -1,0 +1,9 @@
+pub mod Config
+pub mod Ends
+pub mod Greatest
+pub mod Keys
+pub mod Links
+pub mod Places
+pub mod Reading
+pub mod SameAnswer
+pub mod Tree

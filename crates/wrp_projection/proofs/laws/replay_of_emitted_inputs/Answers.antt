@@ -1,6 +1,0 @@
--- The audit and the emission are of one run, whose inputs of the node are those of the replay.
-use Rattle.wrp_projection.proofs.Projected.{replay_of_emitted}
-use Rattle.wrp_projection.proofs.laws.replay_of_emitted_inputs.Goals as goal
-
-pub returns : goal.returns
-returns c = replay_of_emitted c.inputs_are_recorded.ensures c.reading_is_accepted.ensures c.one_audit.ensures

@@ -1,8 +1,0 @@
-use Rattle.wrp_tracking.proofs.Chains as proof
-use Rattle.wrp_tracking.proofs.chain.stamps_tell_constant.Goals as goal
-
-pub returns-clause-sync : goal.returns-clause-sync
-returns-clause-sync c = proof.sync-tells_constant
-
-pub returns-clause-delay : goal.returns-clause-delay
-returns-clause-delay c = proof.delay-tells_ways

@@ -1,5 +1,0 @@
-use Rattle.wrp_tracking.proofs.ErrorSums as proof
-use Rattle.wrp_tracking.proofs.error_sum.estimate_is_near.Goals as goal
-
-pub returns : goal.returns
-returns c = proof.estimate-near

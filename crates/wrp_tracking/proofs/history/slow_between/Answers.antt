@@ -1,5 +1,0 @@
-use Rattle.wrp_tracking.proofs.Histories as proof
-use Rattle.wrp_tracking.proofs.history.slow_between.Goals as goal
-
-pub returns : goal.returns
-returns c = proof.slow-between

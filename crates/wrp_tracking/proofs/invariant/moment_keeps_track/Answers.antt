@@ -1,5 +1,0 @@
-use Rattle.wrp_tracking.proofs.Parts as proof
-use Rattle.wrp_tracking.proofs.invariant.moment_keeps_track.Goals as goal
-
-pub returns : goal.returns
-returns c = proof.moment-keeps_track

@@ -1,5 +1,0 @@
-use Rattle.wrp_tracking.proofs.Parts as proof
-use Rattle.wrp_tracking.proofs.invariant.parts_give_bound.Goals as goal
-
-pub returns : goal.returns
-returns c = proof.parts-give_bound

@@ -1,5 +1,0 @@
-use Rattle.wrp_tracking.proofs.Kept as proof
-use Rattle.wrp_tracking.proofs.servo.kept_is_measured.Goals as goal
-
-pub returns : goal.returns
-returns c = proof.kept-is_measured

@@ -1,5 +1,0 @@
-use Rattle.wrp_tracking.proofs.Servos as proof
-use Rattle.wrp_tracking.proofs.servo.track_gives.Goals as goal
-
-pub returns : goal.returns
-returns c = proof.track-gives

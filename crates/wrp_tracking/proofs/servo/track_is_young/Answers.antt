@@ -1,5 +1,0 @@
-use Rattle.wrp_tracking.proofs.Ages as proof
-use Rattle.wrp_tracking.proofs.servo.track_is_young.Goals as goal
-
-pub returns : goal.returns
-returns c = proof.track-is_young

@@ -1,5 +1,0 @@
-use Rattle.wrp_tracking.proofs.Trees as proof
-use Rattle.wrp_tracking.proofs.tree.tree_sum.Goals as goal
-
-pub returns : goal.returns
-returns c = proof.tree-sum

@@ -1,5 +1,0 @@
-use Rattle.wrp_truth.proofs.Schedules.IdsAgain.{ids_come_again_late}
-use Rattle.wrp_truth.proofs.sequence_ids.ids_come_again_late.Goals as goal
-
-pub returns : goal.returns
-returns c = ids_come_again_late c.ticks_are_apart.ensures
