@@ -26,6 +26,8 @@ pub mod KeepsTime
 pub mod KeepsWaits
 pub mod Leaving
 pub mod Moments
+pub mod NextMoments
+pub mod NextTicks
 pub mod Numbers
 pub mod OneRule
 pub mod RuleCases

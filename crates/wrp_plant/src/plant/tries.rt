@@ -18,10 +18,10 @@ ghost use Rattle.wrp_plant.specs.Sizes.{IsOff, IsReading, IsTime};
 ghost use Rattle.wrp_course.specs.WorldAt.{WorldAt, delay_from, ends_are_up, has_carrier, phase_of};
 
 use super::Plant;
-use modules::has_own_link;
 use crate::checks::{shortest_tick, stands};
 use crate::premises::beat::beat_kept;
 use crate::premises::ticks::tick_early;
+use modules::has_own_link;
 use wrp_base::{Tau, difference, sum};
 use wrp_course::Breach;
 use wrp_network::{LinkCfg, NetCfg};

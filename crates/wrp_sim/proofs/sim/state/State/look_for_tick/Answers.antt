@@ -3,7 +3,7 @@ use Rattle.wrp_course.specs.Setting.{from_on}
 use Rattle.wrp_sim.specs.Rules.{ticks_now}
 use Rattle.wrp_sim.proofs.Seen.{nodes_are}
 use Rattle.wrp_sim.proofs.SimLists.{find_end, found_at, passed_at}
-use Rattle.wrp_sim.proofs.sim.state.State.first_tick.Goals as goal
+use Rattle.wrp_sim.proofs.sim.state.State.look_for_tick.Goals as goal
 
 pub returns-then-ticks_now-clause-value : goal.returns-then-ticks_now-clause-value
 returns-then-ticks_now-clause-value g c s w at h i =

@@ -1,7 +1,7 @@
 use Rattle.std.proofs.Common.{◌∙◌, ap, ap₂}
 use Rattle.wrp_sim.specs.Departures.{first_of_two}
 use Rattle.wrp_sim.proofs.Leaving.{of_both}
-use Rattle.wrp_sim.proofs.sim.departing.first_of_link.Goals as goal
+use Rattle.wrp_sim.proofs.sim.departing.first_of_ends.Goals as goal
 
 pub returns-clause-value : goal.returns-clause-value
 returns-clause-value g c s w h =
