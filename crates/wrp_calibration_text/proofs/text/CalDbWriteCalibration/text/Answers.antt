@@ -21,5 +21,5 @@ returns c =
     let due : IsTextDue c.args.self.now c.octets_of.result.items =
     subst (IsDocumentText false (document_of c.args.self.now)) (sym c.octets_of.ensures.value)
     (subst (λ ms. IsDocumentText false ms (string_bytes c.in_ok-text.text)) c.in_ok-document.ensures c.in_ok-text.ensures.printed) in
-    let listed = c.lists.ensures.listed in
+    let listed = c.lists-lists.ensures.listed in
     record { due = due; only = λ other is. one_text c.args.self.now other c.octets_of.result.items is due; text = text; same = same_again c.args.self.now c.octets_of.result.items listed text }

@@ -5,4 +5,4 @@ use Rattle.wrp_node.proofs.Lists.{Done}
 use Rattle.wrp_node.proofs.ports.Ports.give_every.Given as goal
 
 abbrev pub invariant-loop-place : goal.invariant-loop-place
-invariant-loop-place l = Done (GivesTo Every l.fn.input.now) l.fn.self l.place-items l.place-index
+invariant-loop-place l = Done (GivesTo Every l.fn.input) l.fn.self l.place-items l.place-index
