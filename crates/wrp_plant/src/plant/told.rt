@@ -113,7 +113,7 @@ fn tell_where(plant: &mut Plant, news: &News, outs: &[Output])
     requires time { IsTime plant.old.time }
     requires few { SendsFew outs.now }
     requires room { HasRoom 1 plant.old }
-    ensures told { TellsEnds news.now outs.now plant.old plant.new }
+    ensures { TellsEnds news.now outs.now plant.old plant.new }
 {
     if !is_quiet(news, outs) {
         tell_ends(plant, news, outs);

@@ -14,3 +14,6 @@ returns-clause-put c =
 
 pub returns-clause-spare : goal.returns-clause-spare
 returns-clause-spare c h = c.tell_where.ensures.spare (spare_there c.args.plant.now c.step_clock.new.plant c.step_clock.ensures.same h)
+
+pub tell_where-requires-clause-room : goal.tell_where-requires-clause-room
+tell_where-requires-clause-room c = room_there _ c.args.plant.now c.step_clock.new.plant c.step_clock.ensures.same c.requires.room
