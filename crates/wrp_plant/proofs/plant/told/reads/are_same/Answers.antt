@@ -7,5 +7,5 @@ use Rattle.wrp_plant.proofs.plant.told.reads.are_same.Goals as goal
 
 pub returns : goal.returns
 returns c e p =
-    same_states p c.args.before.now c.args.after.now ?
+    same_states p c.args.before.now c.args.after.now c.if-before-after.false
     (λ i x y f g. c.loop-i.invariant i x y (omega (arith, slice_get_within c.args.before.now i x f)) f g)
