@@ -3,6 +3,7 @@ pub mod Ends
 pub mod Faults
 pub mod FirstPorts
 pub mod Handing
+pub mod IdleLinks
 pub mod KeepsBeat
 pub mod KeepsChecks
 pub mod KeepsDac
@@ -33,5 +34,6 @@ pub mod OneRule
 pub mod RuleCases
 pub mod Seen
 pub mod SimLists
+pub mod Steered
 pub mod TickTimes
 pub mod Turns

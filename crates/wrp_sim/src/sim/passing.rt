@@ -1,5 +1,5 @@
 //! True time that passes.
-ghost use Rattle.std.specs.Prelude.{◌≡◌, ◌<◌, ◌≤◌, ◌++◌, ◌^◌, ◌+ℤ◌, ◌-ℤ◌, ◌≤ℤ◌, ◌<ℤ◌, ℤ, List, pos, fold, map, if◌then◌else◌, length, unsigned_abs, IfSome};
+ghost use Rattle.std.specs.Prelude.{◌≡◌, ◌<◌, ◌≤◌, ◌++◌, ◌^◌, ◌+ℤ◌, ◌-ℤ◌, ◌≤ℤ◌, ◌<ℤ◌, ℤ, List, pos, true, fold, map, if◌then◌else◌, length, unsigned_abs, IfSome};
 ghost use Rattle.std.specs.List.{AllByRecursion};
 ghost use Rattle.wrp_sim.specs.NextTick.{IsNext};
 ghost use Rattle.wrp_sim.specs.Numbers as number;
@@ -57,12 +57,16 @@ fn soonest_due(now: Tau, other: Tau, due: Option<(u32, Tau)>) -> Tau
     }
 }
 
-// The node of a number.
-fn node_of(n: usize) -> u8
-    requires { n < 64 }
-    ensures { result ≡ n }
+// Whether there is a node of this number, and it is up.
+fn is_up_at<F: Fn(i64) -> i64>(world: &World<F>, n: usize) -> bool
+    requires { IsValid F.pre F.post world.now }
+    ensures { (s : Setting) (w : WorldAt) → StandsFor F.post s w world.now → result ≡ true → (w.clock n).up ≡ true }
 {
-    n as u8
+    if n < usize::from(world.node_count()) {
+        world.is_up(n as u8)
+    } else {
+        false
+    }
 }
 
 // How long it is to the next moment.
@@ -192,11 +196,11 @@ impl State {
         now: Tau,
         other: Tau,
         n: usize,
-        at: Tau,
+        time: Tau,
     ) -> Tau
         requires valid { IsValid F.pre F.post world.now }
         requires fits { FitsSim world.now.plant.net.cfg self.now }
-        requires next { IsNext now self.now.tick_at n at }
+        requires next { IsNext now self.now.tick_at n time }
         requires later { now <ℤ other }
         requires now { unsigned_abs now ≤ 2 ^ 100 }
         requires other { unsigned_abs other ≤ 2 ^ 101 }
@@ -206,8 +210,8 @@ impl State {
         ensures most { result ≤ℤ other }
         ensures size { unsigned_abs result ≤ 2 ^ 101 }
     {
-        if world.is_up(node_of(n)) {
-            sooner(now, other, at)
+        if is_up_at(world, n) {
+            sooner(now, other, time)
         } else {
             self.soonest_of_all(world, now, other)
         }
@@ -227,7 +231,7 @@ impl State {
         ensures size { unsigned_abs result ≤ 2 ^ 101 }
     {
         match self.tick_at.next(now) {
-            Some((n, at)) => self.soonest_known(world, now, other, n, at),
+            Some((n, time)) => self.soonest_known(world, now, other, n, time),
             None => self.soonest_of_all(world, now, other),
         }
     }
