@@ -15,14 +15,14 @@ ghost use Rattle.wrp_loop.specs.LoopPasses.{IsUncalled, LoopPasses};
 ghost use Rattle.wrp_asked.specs.Tasks.{IsLooping};
 ghost use Rattle.wrp_words.specs.Requests.{asked_in};
 
-use crate::front::{Front, new_reader, read_network, take_front};
+use crate::front::{Front, new_reader, take_front};
 use std::alloc::Global;
 use wrp_config::Network;
 use wrp_io::{Link, Sink, Source};
 use wrp_law::DelayLaw;
 use wrp_loop::run_over;
 use wrp_network_world::count_of;
-use wrp_records::{Reader, Status, refuse_network};
+use wrp_records::{Reader, Status};
 use wrp_replay::{Replayed, asked, kept_if, law_above};
 
 // Runs a network over a link by the records that a reader gives. The laws look into one network, and the

@@ -19,7 +19,7 @@ ghost use Rattle.wrp_network_world.specs.LawsFit.{LawsFit};
 ghost use Rattle.wrp_asked.specs.Tasks.{IsReplay};
 ghost use Rattle.wrp_words.specs.Requests.{asked_in};
 
-use crate::front::{Front, new_reader, read_network, take_front};
+use crate::front::{Front, new_reader, take_front};
 use std::alloc::Global;
 use wrp_audit::audit_by;
 use wrp_commands::Asked;
@@ -27,7 +27,7 @@ use wrp_config::Network;
 use wrp_io::{Sink, Source};
 use wrp_law::DelayLaw;
 use wrp_network_world::count_of;
-use wrp_records::{Reader, Status, answer, refuse_network};
+use wrp_records::{Reader, Status, answer};
 use wrp_replay::{Replayed, asked, kept_if, law_above, replay};
 use wrp_simulate::simulate;
 use wrp_words::USAGE_LINE;

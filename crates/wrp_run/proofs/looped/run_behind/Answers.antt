@@ -1,17 +1,16 @@
 -- What the run over a link says of the whole input; or there is no memory for a copy of the network.
-use Rattle.std.proofs.Common.{ℕ, List, Ok, Err, subst, refl, sym}
-use Rattle.wrp_network_text.proofs.OneReading.{one_reading}
+use Rattle.std.proofs.Common.{◌∙◌, subst, refl, sym}
+use Rattle.std.proofs.KnownBytes.{Appends-nil}
 use Rattle.wrp_config.specs.declared.network.Network.{Network}
-use Rattle.wrp_network_text.specs.Reading.{IsReadingOf}
 use Rattle.wrp_config.specs.Same.{IsSameNetwork}
 use Rattle.wrp_records.specs.Passages.{passage}
 use Rattle.wrp_network_world.specs.NetworkSetting.{setting_in}
 use Rattle.wrp_asked.specs.Ends.{Run, begun_at}
 use Rattle.wrp_asked.specs.Tasks.{Loop}
 use Rattle.wrp_words.specs.Requests.{asked_in}
-use Rattle.wrp_asked.proofs.Asking.{TookNetwork, refused_ends, uncalled}
-use Rattle.wrp_asked.proofs.LoopEnding.{loop_ends, refused_unlinked, refused_unread}
-use Rattle.wrp_commands.specs.Request as requests
+use Rattle.wrp_asked.proofs.Asking.{TookNetwork, memory_ends, uncalled}
+use Rattle.wrp_asked.proofs.LoopEnding.{loop_ends}
+use Rattle.wrp_run.proofs.AskingWork.{copy_read, copy_same}
 use Rattle.wrp_run.proofs.looped.run_behind.Goals as goal
 
 pub returns-in-Err-clause-ends : goal.returns-in-Err-clause-ends
@@ -27,13 +26,13 @@ returns-in-Err-clause-ends g c = λ first front.
 pub run_on-requires-clause-same : goal.run_on-requires-clause-same
 run_on-requires-clause-same g c =
     subst (λ (net : Network). IsSameNetwork net c.in-Ok.own.value) (sym c.deref-2.ensures)
-    (copy_same c.args.front.net.value c.in-Ok.own.value c.in-Ok.ensures)
+    (copy_same c.args.front.net.value c.in-Ok.own.value (c.in-Ok.ensures ∙ c.deref.ensures))
 
 pub returns-clause-ends : goal.returns-clause-ends
 returns-clause-ends g c = λ first front.
     let asked = asked_in c.args.words.now in
     let text = c.args.front.text.items in
-    let own = copy_read c.args.front.text.items c.args.front.net.value c.in-Ok.own.value c.in-Ok.ensures c.requires.reads in
+    let own = copy_read c.args.front.text.items c.args.front.net.value c.in-Ok.own.value (c.in-Ok.ensures ∙ c.deref.ensures) c.requires.reads in
     let network : TookNetwork asked first (g.S.Source.left c.args.source.now) text c.args.reader.now (Loop (setting_in c.in-Ok.own.value) c.args.seed) = record {
       network = front.network;
       taken = front.taken;
