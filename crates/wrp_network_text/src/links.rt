@@ -11,7 +11,7 @@ use crate::link_rows::{down_in, up_in};
 use arrayvec::ArrayVec;
 use toml::{Table, Value};
 use wrp_base::{Fibre, Module};
-use wrp_caldb::{ListedModule, Lists, name_of};
+use wrp_caldb::{ListedModule, Lists};
 use wrp_calibration_text::{name_at, value_at};
 use wrp_network::{LinkCfg, Name};
 
@@ -20,7 +20,7 @@ fn name_of(key: &str, table: &Table) -> Name
     ensures { result.bytes ≡ name_of key.now (table_view table.now) }
 {
     match text_at(key, table) {
-        Some(text) => name_of(text),
+        Some(text) => wrp_caldb::name_of(text),
         None => Name::new(),
     }
 }

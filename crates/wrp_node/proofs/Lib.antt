@@ -9,6 +9,7 @@ pub mod Lists
 pub mod NewNode
 pub mod NodeTicks
 pub mod Nodes
+pub mod Nothing
 pub mod OneRun
 pub mod OwnPorts
 pub mod Ranges

@@ -65,6 +65,10 @@ lease_call fresh calls = if is_changed (lease_told calls) fresh then Some (CallL
 abbrev pub link_call : Option Deltas → List Call → Option Call
 link_call on calls = if is_changed (is_some (link_told calls)) (is_some on) then Some (CallLink on) else None
 
+-- there is nothing to tell: there is no servo, or what there is to tell it was told last
+abbrev pub HasNothing : {F : Type 0} → (F → ℤ → ℤ → Type 0) → ControlOf F → (List Call → Option Call) → Type 0
+HasNothing post c call = (fixed : NodeSetting) (calls : List Call) → ControlStands post fixed calls c → for_slave fixed (call calls) ≡ None
+
 -- the call that tells the servo that a carrier came or went: only where its port is the slave port
 abbrev pub carrier_call : Bool → Bool → Option Call
 carrier_call slave up = if slave then Some (CallCarrier up) else None

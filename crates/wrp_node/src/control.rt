@@ -1,8 +1,8 @@
 //! The servo of a node, which has one exactly where it has a slave port.
-ghost use Rattle.std.specs.Prelude.{◌≡◌, ◌<◌, ℤ, [], Some, is_some, IfSome};
+ghost use Rattle.std.specs.Prelude.{◌≡◌, ◌<◌, ℤ, false, [], Some, is_some, IfSome};
 ghost use Rattle.wrp_data.specs.Reason.{IsReason};
 ghost use Rattle.wrp_law.specs.Law.{KeepsFact};
-ghost use Rattle.wrp_node.specs.Control.{ControlStands, AddsCalls, KeepsLaw, HasTick, law_in, lease_call, link_call, carrier_call, state_in, locked_in, certain_in, dac_in, tracked_in};
+ghost use Rattle.wrp_node.specs.Control.{ControlStands, AddsCalls, KeepsLaw, HasTick, HasNothing, law_in, lease_call, link_call, carrier_call, state_in, locked_in, certain_in, dac_in, tracked_in};
 ghost use Rattle.wrp_node.specs.Telling.{no_answer};
 ghost use Rattle.wrp_servo.specs.Call.{CallSample, CallMeasured, CallTick, CallReset};
 ghost use Rattle.wrp_node.specs.declared.interface.NodeSet.{NodeSet};
@@ -94,6 +94,16 @@ impl<F: Fn(i64) -> i64> Control<F> {
         }
     }
 
+    /// Whether the lease is another than was told last. Most often it is not; then no answer is made.
+    pub fn owes_lease(&self, fresh: bool) -> bool
+        ensures { result ≡ false → HasNothing F.post self.now (lease_call fresh) }
+    {
+        match &self.told {
+            Some(told) => told.lease != fresh,
+            None => false,
+        }
+    }
+
     /// The lease, where it is another than was told last.
     pub fn lease(&mut self, fresh: bool) -> ServoOut
         requires law { KeepsLaw F.pre F.post self.old }
@@ -106,6 +116,16 @@ impl<F: Fn(i64) -> i64> Control<F> {
         match &mut self.told {
             Some(told) if told.lease != fresh => told.lease(fresh),
             _ => no_answer(),
+        }
+    }
+
+    /// Whether the link, on or off, is another than was told last.
+    pub fn owes_link(&self, on: Option<Deltas>) -> bool
+        ensures { result ≡ false → HasNothing F.post self.now (link_call on) }
+    {
+        match &self.told {
+            Some(told) => told.link != on.is_some(),
+            None => false,
         }
     }
 

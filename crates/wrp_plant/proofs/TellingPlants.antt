@@ -169,7 +169,7 @@ told_clocks news outs old new c m f n y e =
 
 -- The memory for the steps that are left, and when a frame was put out last
 
-spare_kept : (old new : Plant) → ((k : ℕ) → HasRoom (k + 1) old → HasRoom k new) → HasRoom 1 old → (n : ℕ) → HasRoom n old → HasRoom (less_one n) new
+pub spare_kept : (old new : Plant) → ((k : ℕ) → HasRoom (k + 1) old → HasRoom k new) → HasRoom 1 old → (n : ℕ) → HasRoom n old → HasRoom (less_one n) new
 spare_kept old new room one zero h = room 0 one
 spare_kept old new room one (suc n) h = let next : suc n ≡ n + 1 = omega arith in room n (subst (λ k. HasRoom k old) next h)
 
@@ -187,7 +187,7 @@ sent_by now z h [] i out g = absurd (none-some out g)
 sent_by now z h (f ∷ fs) zero out g = subst (λ (o : PutOut). o.at ≤ℤ z) (same_Some (put_at now f) out g) h
 sent_by now z h (f ∷ fs) (suc i) out g = sent_by now z h fs i out g
 
-none_sent : (p : ℕ) (outs : List Output) → sends outs ≡ false → frames_at p outs ≡ []
+pub none_sent : (p : ℕ) (outs : List Output) → sends outs ≡ false → frames_at p outs ≡ []
 none_sent p [] e = refl
 none_sent p (Send q frame ∷ outs) e = absurd (true≢false e)
 none_sent p (StepOf cycles ∷ outs) e = none_sent p outs e
@@ -233,9 +233,8 @@ span_put : (b : Bool) (before after now : ℤ) (news : News) (outs : List Output
 span_put b before after now news outs o x y e put l r h = subst (λ z. SpanPutBy z y) (sym put) (span_put_by b before now news outs o x y e l r h)
 
 pub told_fits : (news : News) (outs : List Output) (old new : Plant) → Told news outs old new → MayStep outs old →
-    ((k : ℕ) → HasRoom (k + 1) old → HasRoom k new) → HasRoom 1 old → new.spare ≡ less_one old.spare →
-    new.last_put ≡ (if sends outs then old.time else old.last_put) → FitsPlant old → FitsPlant new
-told_fits news outs old new c m room one spare put f = record {
+    (HasRoom old.spare old → HasRoom new.spare new) → new.last_put ≡ (if sends outs then old.time else old.last_put) → FitsPlant old → FitsPlant new
+told_fits news outs old new c m spare put f = record {
   accepted = subst (λ (g : NetCfg). IsAccepted g new.net.db) (sym c.cfg) (subst (λ (d : Database). IsAccepted old.net.cfg d) (sym c.db) f.accepted);
   clock_count = c.of_clocks.0 ∙ f.clock_count ∙ ap (λ (g : NetCfg). length g.nodes.items) (sym c.cfg);
   span_count = c.of_spans.0 ∙ f.span_count ∙ ap (λ (g : NetCfg). length g.links.items) (sym c.cfg);
@@ -249,7 +248,7 @@ told_fits news outs old new c m room one spare put f = record {
   frames =
       subst (λ (g : NetCfg). FitsFrames (length g.links.items) new.events new.frames) (sym c.cfg)
       (subst (λ n. FitsFrames (length old.net.cfg.links.items) n new.frames) (sym c.count) (subst (FitsFrames (length old.net.cfg.links.items) old.events) (sym c.of_frames) f.frames));
-  room = subst (λ n. HasRoom n new) (sym spare) (spare_kept old new room one old.spare f.room);
+  room = spare f.room;
   puts =
       each_turned (TellsAt old.time news outs old.net.cfg.links.items) (λ n. SpanPutBy old.last_put) (λ n. SpanPutBy new.last_put) old.spans.items new.spans.items c.of_spans
       (λ k x y r h. span_put (sends outs) old.last_put new.last_put old.time news outs (slice_get old.net.cfg.links.items k) x y refl put f.put r h) f.puts;

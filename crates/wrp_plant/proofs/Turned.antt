@@ -35,7 +35,7 @@ split_up : (n i : ℕ) → (n ≡ i) ⊎ (n < i) → (suc n ≡ suc i) ⊎ (suc 
 split_up n i (inl e) = inl (ap suc e)
 split_up n i (inr h) = inr (omega arith)
 
-split : (n i : ℕ) → n < suc i → (n ≡ i) ⊎ (n < i)
+pub split : (n i : ℕ) → n < suc i → (n ≡ i) ⊎ (n < i)
 split zero zero h = inl refl
 split zero (suc i) h = inr (omega arith)
 split (suc n) zero h = absurd (omega arith)

@@ -1,5 +1,5 @@
 -- What a node's step makes of all of a world but its nodes, as the code keeps it (this project's profile).
-use Rattle.std.specs.Prelude.{◌≡◌, ◌≤◌, ◌==◌, ◌⊎◌, ◌+ℤ◌, ◌*ℤ◌, ◌*◌, ◌^◌, ℕ, zero, suc, ℤ, pos, Bool, true, false, if◌then◌else◌, unsigned_abs, List, [], ◌∷◌, ◌++◌, length, map, Option, None, Some, slice_get}
+use Rattle.std.specs.Prelude.{◌≡◌, ◌≤◌, ◌==◌, ◌⊎◌, ◌+◌, ◌+ℤ◌, ◌*ℤ◌, ◌*◌, ◌^◌, ℕ, zero, suc, ℤ, pos, Bool, true, false, if◌then◌else◌, unsigned_abs, List, [], ◌∷◌, ◌++◌, length, map, Option, None, Some, slice_get}
 use Rattle.std.specs.List.{AllZip}
 use Rattle.wrp_base.specs.Clock.{period_of}
 use Rattle.wrp_base.specs.declared.link.LinkState.{LinkState}
@@ -14,6 +14,7 @@ use Rattle.wrp_frame.specs.SentOctets.{octets_of}
 use Rattle.wrp_link.specs.Table.{is_same}
 use Rattle.wrp_node.specs.declared.interface.Output.{Output}
 use Rattle.wrp_node.specs.declared.interface.Output.TheVariants.{Send, Step as StepOf}
+use Rattle.wrp_node.specs.declared.ports.states.PortState.{PortState}
 use Rattle.wrp_node.specs.Node.{is_tick}
 use Rattle.wrp_node.specs.NodeAt.{link_at}
 use Rattle.wrp_node.specs.Sends.{frames_at}
@@ -28,6 +29,7 @@ use Rattle.wrp_plant.specs.declared.plant.told.News.{News}
 use Rattle.wrp_course.specs.Given.{Given, mover_of}
 use Rattle.wrp_plant.specs.Moves.{EachBecame, Where, At}
 use Rattle.wrp_plant.specs.Plant.{Each}
+use Rattle.wrp_plant.specs.Room.{HasRoom}
 use Rattle.wrp_course.specs.Setting.{Setting, end_at}
 use Rattle.wrp_course.specs.WorldAt.{WorldAt}
 
@@ -44,6 +46,16 @@ abbrev pub sends : List Output → Bool
 sends [] = false
 sends (Send port frame ∷ outs) = true
 sends (out ∷ outs) = sends outs
+
+-- two rows of ports say the same
+pub record SameRow (before after : PortState) : Type 0 where
+  pub port : before.port ≡ after.port
+  pub state : is_same before.state after.state ≡ true
+
+-- a step that sends nothing and changes no link state
+pub record IsQuiet (news : News) (outs : List Output) : Type 0 where
+  pub silent : sends outs ≡ false
+  pub states : (p : ℕ) → is_same (state_in p news.before.items) (state_in p news.after.items) ≡ true
 
 -- What it makes of the memory that was taken
 
@@ -91,6 +103,13 @@ TellsIn now news outs (Some link) old new = TellsSpan now news outs link old new
 
 abbrev pub TellsAt : ℤ → News → List Output → List LinkCfg → ℕ → (old new : Span) → Type 0
 TellsAt now news outs links k old new = TellsIn now news outs (slice_get links k) old new
+
+-- at all of them: it is noted when a frame was put out last, and for how many steps places are left
+pub record TellsEnds (news : News) (outs : List Output) (old new : Plant) : Type 0 where
+  pub same : new ≡ record old { spans = new.spans; last_put = if sends outs then old.time else old.last_put; spare = new.spare }
+  pub spans : EachBecame (TellsAt old.time news outs old.net.cfg.links.items) old.spans.items new.spans.items
+  pub room : (k : ℕ) → HasRoom (k + 1) old → HasRoom k new
+  pub spare : HasRoom old.spare old → HasRoom new.spare new
 
 -- All parts
 

@@ -70,6 +70,13 @@ asked_networked asked (wanted.Emit name) asks = (requests.Emit name.now, asks)
 asked_networked asked (wanted.Replay name) asks = (requests.Replay name.now, asks)
 asked_networked asked (wanted.Simulate seed) asks = (requests.Simulate seed, asks)
 
+-- a copy of a network is the same network, and is what the text is read as
+pub copy_same : (net own : Network) → own ≡ net → IsSameNetwork net own
+copy_same net own is = subst (λ (n : Network). IsSameNetwork net n) (sym is) (refl, refl)
+
+pub copy_read : (text : List ℕ) (net own : Network) → own ≡ net → IsReadingOf text (Ok net) → IsReadingOf text (Ok own)
+copy_read text net own is reads = subst (λ (n : Network). IsReadingOf text (Ok n)) (sym is) reads
+
 -- of two networks that are the same they ask for the same work
 
 named_same : (a b : NetCfg) (name : List ℕ) → bare_cfg a ≡ bare_cfg b → node_named b name ≡ node_named a name

@@ -15,18 +15,18 @@ ghost use Rattle.wrp_loop.specs.LoopPasses.{IsUncalled, LoopPasses};
 ghost use Rattle.wrp_asked.specs.Tasks.{IsLooping};
 ghost use Rattle.wrp_words.specs.Requests.{asked_in};
 
-use crate::front::{Front, new_reader, read_network, take_front};
+use crate::front::{Front, new_reader, take_front};
 use std::alloc::Global;
 use wrp_config::Network;
 use wrp_io::{Link, Sink, Source};
 use wrp_law::DelayLaw;
 use wrp_loop::run_over;
 use wrp_network_world::count_of;
-use wrp_records::{Reader, Status, refuse_network};
+use wrp_records::{Reader, Status};
 use wrp_replay::{Replayed, asked, kept_if, law_above};
 
 // Runs a network over a link by the records that a reader gives. The laws look into one network, and the
-// world has another that is the same. All of them are one closure, which is made here.
+// world has a copy of it. All of them are one closure, which is made here.
 fn run_on<S: Source, K: Sink, N: Link>(
     alloc: Global,
     net: &Network,
@@ -75,7 +75,7 @@ fn run_on<S: Source, K: Sink, N: Link>(
     run_over(alloc, own, laws, seed, reader, source, sink, link)
 }
 
-// Runs the network that stands in front of the records over a link. The world gets a network of its own.
+// Runs the network in front of the records over a link. The world gets a copy of it.
 fn run_behind<S: Source, K: Sink, N: Link>(
     alloc: Global,
     words: &[&str],
@@ -104,9 +104,9 @@ fn run_behind<S: Source, K: Sink, N: Link>(
     ensures unstarted { IsUncalled result → link.new ≡ link.old }
 {
     let _words = words;
-    let own = match read_network(alloc, &front.text) {
+    let own = match front.net.copied(alloc) {
         Ok(own) => own,
-        Err(fault) => return refuse_network(alloc, sink, &fault),
+        Err(_) => return Status::OutOfMemory,
     };
     run_on(alloc, &*front.net, own, seed, reader, source, sink, link)
 }

@@ -19,7 +19,7 @@ ghost use Rattle.wrp_network_world.specs.LawsFit.{LawsFit};
 ghost use Rattle.wrp_asked.specs.Tasks.{IsReplay};
 ghost use Rattle.wrp_words.specs.Requests.{asked_in};
 
-use crate::front::{Front, new_reader, read_network, take_front};
+use crate::front::{Front, new_reader, take_front};
 use std::alloc::Global;
 use wrp_audit::audit_by;
 use wrp_commands::Asked;
@@ -27,7 +27,7 @@ use wrp_config::Network;
 use wrp_io::{Sink, Source};
 use wrp_law::DelayLaw;
 use wrp_network_world::count_of;
-use wrp_records::{Reader, Status, answer, refuse_network};
+use wrp_records::{Reader, Status, answer};
 use wrp_replay::{Replayed, asked, kept_if, law_above, replay};
 use wrp_simulate::simulate;
 use wrp_words::USAGE_LINE;
@@ -66,7 +66,7 @@ fn work_by<F: Fn(i64) -> i64, S: Source, K: Sink>(
 }
 
 // Does work on a network over the records that a reader gives. The laws look into one network, and the
-// world has another that is the same. All of them are one closure, which is made here.
+// world has a copy of it. All of them are one closure, which is made here.
 fn work_on<S: Source, K: Sink>(
     alloc: Global,
     net: &Network,
@@ -113,7 +113,7 @@ fn work_on<S: Source, K: Sink>(
     work_by(alloc, own, laws, work, reader, source, sink)
 }
 
-// Does work on a whole network, which stands in front of the records. The world gets a network of its own.
+// Does work on the network in front of the records. The world gets a copy of it.
 #[inline(never)]
 fn work_behind<S: Source, K: Sink>(
     alloc: Global,
@@ -137,9 +137,9 @@ fn work_behind<S: Source, K: Sink>(
     ensures write { FailsBy Status.WriteFault result (passage K.held K.faults sink.old sink.new) }
 {
     let _words = words;
-    let own = match read_network(alloc, &front.text) {
+    let own = match front.net.copied(alloc) {
         Ok(own) => own,
-        Err(fault) => return refuse_network(alloc, sink, &fault),
+        Err(_) => return Status::OutOfMemory,
     };
     work_on(alloc, &*front.net, own, work, reader, source, sink)
 }

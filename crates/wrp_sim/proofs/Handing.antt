@@ -138,7 +138,7 @@ at_of sim = record {
   state = sim.draws;
   begun = sim.begun;
   faults = sim.faults.items;
-  tick_at = λ n. unwrap_or (slice_get sim.tick_at.items n) (pos 0);
+  tick_at = λ n. unwrap_or (slice_get sim.tick_at n) (pos 0);
   ticked = sim.ticked;
   arrived = sim.arrived;
 }
@@ -163,7 +163,7 @@ same_times f (x ∷ xs) (y ∷ ys) h k e =
     ap₂ (λ z zs. z ∷ zs) (h 0 x refl ∙ sym (k 0 y refl))
     (same_times (λ n. f (suc n)) xs ys (λ n t g. h (suc n) t g) (λ n t g. k (suc n) t g) less)
 
-once : (i : ℕ) (old new : State) (at next : SimAt) → SimIs at old → SimIs next new → new.scene ≡ old.scene → length new.tick_at.items ≡ length old.tick_at.items →
+once : (i : ℕ) (old new : State) (at next : SimAt) → SimIs at old → SimIs next new → new.scene ≡ old.scene → length new.tick_at ≡ length old.tick_at →
     HandsOnce at i next → HandedOnce old new i
 once i old new at next is_old is_new scene count h =
     let arrived : new.arrived ≡ record { frame = at.arrived.frame; times = at.arrived.times - 1 } = is_new.arrived ∙ h.left in
@@ -176,11 +176,11 @@ once i old new at next is_old is_new scene count h =
       scene = scene;
       draws = is_new.state ∙ h.state ∙ sym is_old.state;
       begun = is_new.begun ∙ h.begun ∙ sym is_old.begun;
-      ticks = same_times at.tick_at new.tick_at.items old.tick_at.items (λ n t e. is_new.ticks n t e ∙ h.ticks n) is_old.ticks count;
+      ticks = same_times at.tick_at new.tick_at old.tick_at (λ n t e. is_new.ticks n t e ∙ h.ticks n) is_old.ticks count;
       ticked = is_new.ticked ∙ h.ticked;
     }
 
-held : (e : Event) (old new : State) (at next : SimAt) → SimIs at old → SimIs next new → new.scene ≡ old.scene → length new.tick_at.items ≡ length old.tick_at.items →
+held : (e : Event) (old new : State) (at next : SimAt) → SimIs at old → SimIs next new → new.scene ≡ old.scene → length new.tick_at ≡ length old.tick_at →
     Hands at e next → HandsOver old new e
 held (Deliver i) old new at next is_old is_new scene count h = once i old new at next is_old is_new scene count h
 held (Arrive i raw) old new at next is_old is_new scene count h = ap (λ (x : Handed). x.frame) is_new.arrived ∙ h
@@ -195,7 +195,7 @@ held (Cut k) old new at next is_old is_new scene count h = is_new.arrived ∙ h 
 held (Join k ms sm) old new at next is_old is_new scene count h = is_new.arrived ∙ h ∙ sym is_old.arrived
 
 given : (s : Setting) (w : WorldAt) (next : Option Next) (e : Event) (old new : State) (at : SimAt) → HandsIf at next → SimIs at old → new.scene ≡ old.scene →
-    length new.tick_at.items ≡ length old.tick_at.items → Gave (rest_of s w at) next (Some e) new → HandsOver old new e
+    length new.tick_at ≡ length old.tick_at → Gave (rest_of s w at) next (Some e) new → HandsOver old new e
 given s w None e old new at h is_old scene count gave = absurd gave
 given s w (Some next) e old new at h is_old scene count gave =
     subst (HandsOver old new) (sym gave.0) (held next.event old new at next.at is_old gave.1 scene count h)

@@ -114,13 +114,13 @@ fold_after : (now best : ℤ) (times : List ℤ) → now <ℤ best → now <ℤ 
 fold_after now best [] h = h
 fold_after now best (t ∷ times) h = fold_after now (sooner now best t) times (sooner_is now best t h).after
 
-fold_most : (now best : ℤ) (times : List ℤ) → now <ℤ best → fold (sooner now) best times ≤ℤ best
+pub fold_most : (now best : ℤ) (times : List ℤ) → now <ℤ best → fold (sooner now) best times ≤ℤ best
 fold_most now best [] h = omega (arith, ints)
 fold_most now best (t ∷ times) h =
     let it : IsSooner now best t (sooner now best t) = sooner_is now best t h in
     int_le_trans (fold (sooner now) (sooner now best t) times) (sooner now best t) best (fold_most now (sooner now best t) times it.after) it.no_later
 
-fold_least : (now best : ℤ) (times : List ℤ) → now <ℤ best → AllByRecursion (λ t. now <ℤ t → fold (sooner now) best times ≤ℤ t) times
+pub fold_least : (now best : ℤ) (times : List ℤ) → now <ℤ best → AllByRecursion (λ t. now <ℤ t → fold (sooner now) best times ≤ℤ t) times
 fold_least now best [] h = tt
 fold_least now best (t ∷ times) h =
     let it : IsSooner now best t (sooner now best t) = sooner_is now best t h in (

@@ -3,6 +3,7 @@ pub mod Ends
 pub mod Faults
 pub mod FirstPorts
 pub mod Handing
+pub mod IdleLinks
 pub mod KeepsBeat
 pub mod KeepsChecks
 pub mod KeepsDac
@@ -26,10 +27,13 @@ pub mod KeepsTime
 pub mod KeepsWaits
 pub mod Leaving
 pub mod Moments
+pub mod NextMoments
+pub mod NextTicks
 pub mod Numbers
 pub mod OneRule
 pub mod RuleCases
 pub mod Seen
 pub mod SimLists
+pub mod Steered
 pub mod TickTimes
 pub mod Turns

@@ -1,5 +1,5 @@
 -- Lists by their places, and numbers one after another.
-use Rattle.std.proofs.Common.{◌≡◌, ◌∙◌, refl, ap, sym, subst, ℕ, zero, suc, ◌+◌, ◌-◌, ◌<◌, ◌≤◌, ℤ, Bool, true, false, cond, List, [], ◌∷◌, ◌++◌, map, find, fold, take, drop, remove, slice_set, None, Some, option_map, slice_get, arith}
+use Rattle.std.proofs.Common.{◌≡◌, ◌∙◌, refl, ap, sym, subst, ℕ, zero, suc, ◌+◌, ◌-◌, ◌<◌, ◌≤◌, ℤ, Bool, true, false, cond, List, [], ◌∷◌, ◌++◌, map, find, fold, replicate, take, drop, remove, slice_set, None, Some, option_map, slice_get, arith}
 use Rattle.std.proofs.lemmas.Option.{none-some, same_Some}
 use Rattle.wrp_base.proofs.Lists.{append_assoc}
 use Rattle.wrp_plant.specs.Plant.{Each}
@@ -118,3 +118,10 @@ take_more (z ∷ xs) zero x e = ap (λ y. y ∷ []) (same_Some z x e)
 take_more (z ∷ xs) (suc i) x e =
     let k : suc i + 1 ≡ suc (i + 1) = omega arith in
     ap (λ n. take n (z ∷ xs)) k ∙ ap (λ l. z ∷ l) (take_more xs i x e)
+
+-- Lists of one value
+
+pub taken_alike : {A : Type 0} (x : A) (n m first : ℕ) → n ≤ m → take n (replicate m x) ≡ map (λ (k : ℕ). x) (from_on n first)
+taken_alike x zero m first h = refl
+taken_alike x (suc n) zero first h = absurd (omega (arith, h))
+taken_alike x (suc n) (suc m) first h = ap (λ l. x ∷ l) (taken_alike x n m (first + 1) (omega (arith, h)))

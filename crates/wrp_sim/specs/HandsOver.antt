@@ -13,7 +13,7 @@ pub record HandedOnce (old new : State) (i : ℕ) : Type 0 where
   pub scene : new.scene ≡ old.scene
   pub draws : new.draws ≡ old.draws
   pub begun : new.begun ≡ old.begun
-  pub ticks : new.tick_at.items ≡ old.tick_at.items
+  pub ticks : new.tick_at ≡ old.tick_at
   pub ticked : new.ticked ≡ None
 
 -- an event hands it over, or another arrives, or nothing of this is changed

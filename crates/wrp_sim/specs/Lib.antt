@@ -2,6 +2,7 @@ pub mod Departures
 pub mod Draws
 pub mod HandsOver
 pub mod Keeps
+pub mod NextTick
 pub mod Numbers
 pub mod Rules
 pub mod Sim

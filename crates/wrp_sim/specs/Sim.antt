@@ -20,7 +20,7 @@ pub record SimIs (at : SimAt) (sim : State) : Type 0 where
   pub state : sim.draws ≡ at.state
   pub begun : sim.begun ≡ at.begun
   pub faults : sim.faults.items ≡ at.faults
-  pub ticks : Each (λ n t. t ≡ at.tick_at n) sim.tick_at.items
+  pub ticks : Each (λ n t. t ≡ at.tick_at n) sim.tick_at
   pub ticked : sim.ticked ≡ at.ticked
   pub arrived : sim.arrived ≡ at.arrived
 
@@ -29,7 +29,7 @@ pub record SimIs (at : SimAt) (sim : State) : Type 0 where
 pub record FitsSim (cfg : NetCfg) (sim : State) : Type 0 where
   pub scene : IsSceneOf cfg sim.scene
   pub faults : AllByRecursion (IsFault cfg) sim.faults.items
-  pub ticks : length sim.tick_at.items ≡ node_count cfg
+  pub ticks : length sim.tick_at ≡ node_count cfg
   pub ticked : IfSome sim.ticked (λ n. n < node_count cfg)
   pub begun : sim.begun ≤ length cfg.links.items + node_count cfg
   pub arrived : sim.arrived.times ≤ 2

@@ -5,6 +5,7 @@
 mod draws;
 mod laws;
 mod sim;
+mod ticks;
 
 pub use draws::known_numbers_are_drawn;
 pub use laws::simulator_keeps_the_bounds;

@@ -22,6 +22,7 @@ mod ticking;
 
 use crate::draws::Draws;
 use crate::laws::simulator_keeps_the_bounds;
+use crate::ticks::Ticks;
 use state::{Handed, State};
 use std::alloc::{AllocError, Global};
 use std::marker::Model;
@@ -72,7 +73,7 @@ impl Sim {
                 draws: Draws::new(seed),
                 begun: 0,
                 faults,
-                tick_at,
+                tick_at: Ticks::of(tick_at),
                 ticked: None,
                 arrived: Handed { frame: 0, times: 0 },
             },

@@ -5,6 +5,7 @@ pub mod InTrueRun
 pub mod New
 pub mod RunsOn
 pub mod StandsFor
+pub mod Steered
 pub mod Step
 pub mod StepHolds
 pub mod Take

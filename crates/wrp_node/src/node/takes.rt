@@ -68,8 +68,11 @@ impl<F: Fn(i64) -> i64> Node<F> {
         ensures room { HasTick self.old.control → HasTick self.new.control }
         ensures lead { NodeLeads F.post with_lease self.old self.new }
     {
-        let out = self.control.lease(self.parts.lease());
-        self.parts.take_answer(&out, 0);
+        let fresh = self.parts.lease();
+        if self.control.owes_lease(fresh) {
+            let out = self.control.lease(fresh);
+            self.parts.take_answer(&out, 0);
+        }
     }
 
     // The servo is told of a changed WR_LINK_ON.
@@ -79,8 +82,11 @@ impl<F: Fn(i64) -> i64> Node<F> {
         ensures same_law { law_in self.new.control ≡ law_in self.old.control }
         ensures lead { NodeLeads F.post with_link self.old self.new }
     {
-        let out = self.control.link(self.parts.deltas());
-        self.parts.take_answer(&out, 0);
+        let on = self.parts.deltas();
+        if self.control.owes_link(on) {
+            let out = self.control.link(on);
+            self.parts.take_answer(&out, 0);
+        }
     }
 
     // The servo has its tick.

@@ -110,8 +110,9 @@ impl Plant {
         either(upper, lower)
     }
 
-    // The same; a link at which no frame waits is left at once.
-    fn puts_out_over(&self, k: u8) -> bool
+    /// Whether a frame that was put out now is the oldest that waits at an end of a link; a link at which no frame
+    /// waits is left at once.
+    pub fn puts_out_over(&self, k: u8) -> bool
         requires fits { FitsPlant self.now }
         requires link { k < length self.now.net.cfg.links.items }
         ensures { (s : Setting) (w : WorldAt) → PlantIs s w self.now

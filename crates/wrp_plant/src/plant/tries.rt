@@ -21,6 +21,7 @@ use super::Plant;
 use crate::checks::{shortest_tick, stands};
 use crate::premises::beat::beat_kept;
 use crate::premises::ticks::tick_early;
+use modules::has_own_link;
 use wrp_base::{Tau, difference, sum};
 use wrp_course::Breach;
 use wrp_network::{LinkCfg, NetCfg};
@@ -99,14 +100,18 @@ impl Plant {
         stands(self.joined(k))
     }
 
-    /// The link above a node. `None` exactly for the grandmaster.
+    /// The link above a node. `None` exactly for the grandmaster. The node's own place is looked at first.
     pub fn above(&self, n: u8) -> Option<u8>
         requires { FitsPlant self.now }
         ensures value { (s : Setting) (w : WorldAt) → PlantIs s w self.now → result ≡ above s n }
         ensures within { IfSome result (λ k. k < length self.now.net.cfg.links.items) }
     {
         let cfg = self.cfg();
-        link_above(cfg, n)
+        if has_own_link(cfg, n) {
+            Some(n - 1)
+        } else {
+            link_above(cfg, n)
+        }
     }
 
     /// How far the clock of the lower of two nodes is ahead of the upper one's.

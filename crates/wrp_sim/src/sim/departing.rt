@@ -123,8 +123,8 @@ fn first_of_two(one: Option<Departure>, other: Option<Departure>) -> Option<Depa
     }
 }
 
-// That of a port and of those at the ends of a link which stands first.
-fn first_of_link<F: Fn(i64) -> i64>(
+// That of a port and of those at the ends of a link which stands first: both ends are asked.
+fn first_of_ends<F: Fn(i64) -> i64>(
     world: &World<F>,
     first: Option<Departure>,
     link: u8,
@@ -147,6 +147,27 @@ fn first_of_link<F: Fn(i64) -> i64>(
     };
     let first = first_of_two(first, departing_at(world, upper));
     first_of_two(first, departing_at(world, lower))
+}
+
+// The same; where no frame at an end of the link was put out now, the port stays the first.
+fn first_of_link<F: Fn(i64) -> i64>(
+    world: &World<F>,
+    first: Option<Departure>,
+    link: u8,
+) -> Option<Departure>
+    requires valid { IsValid F.pre F.post world.now }
+    requires link { link < length world.now.plant.net.cfg.links.items }
+    requires range { IfSome first IsDeparture }
+    requires node { IfSome first (λ d. d.node < length world.now.nodes) }
+    ensures value { Tells F.post (λ s w. departing_over s w first link) world.now result }
+    ensures range { IfSome result IsDeparture }
+    ensures node { IfSome result (λ d. d.node < length world.now.nodes) }
+{
+    if world.puts_out_over(link) {
+        first_of_ends(world, first, link)
+    } else {
+        first
+    }
 }
 
 // The first such port of all ends of links.

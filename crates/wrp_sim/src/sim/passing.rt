@@ -1,6 +1,8 @@
 //! True time that passes.
-ghost use Rattle.std.specs.Prelude.{◌≡◌, ◌<◌, ◌≤◌, ◌++◌, ◌^◌, ◌+ℤ◌, ◌-ℤ◌, ◌≤ℤ◌, ◌<ℤ◌, ℤ, List, pos, fold, map, if◌then◌else◌, length, unsigned_abs};
+ghost use Rattle.std.specs.Prelude.{◌≡◌, ◌<◌, ◌≤◌, ◌++◌, ◌^◌, ◌+ℤ◌, ◌-ℤ◌, ◌≤ℤ◌, ◌<ℤ◌, ℤ, List, pos, true, fold, map, if◌then◌else◌, length, unsigned_abs, IfSome};
 ghost use Rattle.std.specs.List.{AllByRecursion};
+ghost use Rattle.wrp_sim.specs.NextTick.{IsNext};
+ghost use Rattle.wrp_sim.specs.Numbers as number;
 ghost use Rattle.wrp_sim.specs.Numbers.{drift_at};
 ghost use Rattle.wrp_sim.specs.Rules as rule;
 ghost use Rattle.wrp_scene.specs.Scenario.{IsFree, free_of};
@@ -14,10 +16,13 @@ use super::numbers::{drift_at, held_to, is_by, own_rate};
 use super::state::State;
 use arrayvec::ArrayVec;
 use wrp_base::{Tau, difference, narrow, sum};
-use wrp_world::{Event, World, start_of};
+use wrp_world::{Event, Steering, World, start_of};
 
 /// The longest time that passes at once, in tau.
 const LONGEST: i128 = 1 << 62;
+
+/// How fibres move that do not move, of as many as a network has at most.
+const STILL: [(i64, i64); 63] = [(0, 0); 63];
 
 // The sooner of two moments, of which the second counts where it is after now.
 fn sooner(now: Tau, best: Tau, moment: Tau) -> Tau
@@ -52,6 +57,18 @@ fn soonest_due(now: Tau, other: Tau, due: Option<(u32, Tau)>) -> Tau
     }
 }
 
+// Whether there is a node of this number, and it is up.
+fn is_up_at<F: Fn(i64) -> i64>(world: &World<F>, n: usize) -> bool
+    requires { IsValid F.pre F.post world.now }
+    ensures { (s : Setting) (w : WorldAt) → StandsFor F.post s w world.now → result ≡ true → (w.clock n).up ≡ true }
+{
+    if n < usize::from(world.node_count()) {
+        world.is_up(n as u8)
+    } else {
+        false
+    }
+}
+
 // How long it is to the next moment.
 fn between(now: Tau, next: Tau) -> i64
     requires later { now <ℤ next }
@@ -68,9 +85,7 @@ fn put_moves(count: usize, moves: &mut ArrayVec<(i64, i64), 63>)
     ensures { moves.new.items ≡ map (λ k. (pos 0, pos 0)) (from_on count 0) }
 {
     moves.clear();
-    for _link in 0..count {
-        moves.push((0, 0));
-    }
+    let _fits = moves.try_extend_from_slice(&STILL[..count]);
 }
 
 // A time that passes, in place of another event; where one passed before, its lists stay where they are.
@@ -153,8 +168,8 @@ impl State {
         if up { sooner(now, best, at) } else { best }
     }
 
-    // The soonest of the tick times and of another moment.
-    fn soonest_tick<F: Fn(i64) -> i64>(&self, world: &World<F>, now: Tau, other: Tau) -> Tau
+    // The soonest of the tick times and of another moment: all nodes are asked.
+    fn soonest_of_all<F: Fn(i64) -> i64>(&self, world: &World<F>, now: Tau, other: Tau) -> Tau
         requires valid { IsValid F.pre F.post world.now }
         requires fits { FitsSim world.now.plant.net.cfg self.now }
         requires later { now <ℤ other }
@@ -172,6 +187,53 @@ impl State {
             best = self.sooner_tick(world, now, best, n);
         }
         best
+    }
+
+    // The same, where the first tick time after now is known.
+    fn soonest_known<F: Fn(i64) -> i64>(
+        &self,
+        world: &World<F>,
+        now: Tau,
+        other: Tau,
+        n: usize,
+        time: Tau,
+    ) -> Tau
+        requires valid { IsValid F.pre F.post world.now }
+        requires fits { FitsSim world.now.plant.net.cfg self.now }
+        requires next { IsNext now self.now.tick_at n time }
+        requires later { now <ℤ other }
+        requires now { unsigned_abs now ≤ 2 ^ 100 }
+        requires other { unsigned_abs other ≤ 2 ^ 101 }
+        ensures value { (s : Setting) (w : WorldAt) (at : SimAt) → StandsFor F.post s w world.now
+            → SimIs at self.now → result ≡ fold (rule.sooner now) other (rule.tick_times s w at) }
+        ensures later { now <ℤ result }
+        ensures most { result ≤ℤ other }
+        ensures size { unsigned_abs result ≤ 2 ^ 101 }
+    {
+        if is_up_at(world, n) {
+            sooner(now, other, time)
+        } else {
+            self.soonest_of_all(world, now, other)
+        }
+    }
+
+    // The same; where it is known which node ticks next, and it is up, no other one is asked.
+    fn soonest_tick<F: Fn(i64) -> i64>(&self, world: &World<F>, now: Tau, other: Tau) -> Tau
+        requires valid { IsValid F.pre F.post world.now }
+        requires fits { FitsSim world.now.plant.net.cfg self.now }
+        requires later { now <ℤ other }
+        requires now { unsigned_abs now ≤ 2 ^ 100 }
+        requires other { unsigned_abs other ≤ 2 ^ 101 }
+        ensures value { (s : Setting) (w : WorldAt) (at : SimAt) → StandsFor F.post s w world.now
+            → SimIs at self.now → result ≡ fold (rule.sooner now) other (rule.tick_times s w at) }
+        ensures later { now <ℤ result }
+        ensures most { result ≤ℤ other }
+        ensures size { unsigned_abs result ≤ 2 ^ 101 }
+    {
+        match self.tick_at.next(now) {
+            Some((n, time)) => self.soonest_known(world, now, other, n, time),
+            None => self.soonest_of_all(world, now, other),
+        }
     }
 
     // The soonest of the times of faults and of another moment.
@@ -212,18 +274,18 @@ impl State {
         between(now, next)
     }
 
-    // How far the clock of a node that is up moves in a time.
-    fn moves<F: Fn(i64) -> i64>(&self, world: &World<F>, dt: i64, n: u8) -> i64
+    // How far the clock of a node that is steered so moves in a time.
+    fn moves<F: Fn(i64) -> i64>(&self, world: &World<F>, dt: i64, n: u8, steering: Steering) -> i64
         requires valid { IsValid F.pre F.post world.now }
         requires fits { FitsSim world.now.plant.net.cfg self.now }
         requires node { n < length world.now.nodes }
-        ensures { Tells F.post (λ s w. drift_at dt (rule.clock_rate self.now.scene s w n)) world.now result }
+        requires kept { IfSome steering.kept (λ rate. rate ≤ 1_000_000_000) }
+        ensures { Tells F.post (λ s w. drift_at dt (number.held_to steering.kept
+            (number.own_rate (free_of self.now.scene n) steering.dac s.cfg.bias))) world.now result }
     {
         let free = self.free(n);
-        let dac = world.dac(n);
-        let own = own_rate(free, dac, bias(world));
-        let kept = world.rate(n);
-        let rate = held_to(kept, own);
+        let own = own_rate(free, steering.dac, bias(world));
+        let rate = held_to(steering.kept, own);
         drift_at(dt, rate)
     }
 
@@ -244,10 +306,9 @@ impl State {
         requires node { n < length world.now.nodes }
         ensures { Tells F.post (λ s w. rule.drift_over self.now.scene s w dt n) world.now result }
     {
-        if world.is_up(n) {
-            self.moves(world, dt, n)
-        } else {
-            0
+        match world.steering(n) {
+            Some(steering) => self.moves(world, dt, n, steering),
+            None => 0,
         }
     }
 

@@ -1,5 +1,5 @@
 //! The start, links that are joined, and nodes that come up.
-ghost use Rattle.std.specs.Prelude.{◌≡◌, ◌<◌, ◌+◌, None, Some, length, slice_set};
+ghost use Rattle.std.specs.Prelude.{◌≡◌, ◌<◌, ◌+◌, None, Some, length};
 ghost use Rattle.wrp_network.specs.declared.configuration.NetCfg.{NetCfg};
 ghost use Rattle.wrp_sim.specs.Rules as rule;
 ghost use Rattle.wrp_sim.specs.Sim.{FitsSim, Follows, Gave, SimIs, StaysFit, as_is, put};
@@ -10,16 +10,8 @@ ghost use Rattle.wrp_course.specs.WorldAt.{WorldAt};
 
 use super::state::State;
 use arrayvec::ArrayVec;
-use wrp_base::{Tau, sum};
+use wrp_base::sum;
 use wrp_world::{Event, World, longest_tick, shortest_tick};
-
-// A node's time is set.
-fn set_time(times: &mut Vec<Tau>, n: u8, time: Tau)
-    requires { n < length times.old.items }
-    ensures { times.new.items ≡ slice_set times.old.items n time }
-{
-    times[usize::from(n)] = time;
-}
 
 impl State {
     /// A link is joined with the delays of the scenario.
@@ -60,8 +52,9 @@ impl State {
     {
         let cfg = &world.net().cfg;
         let wait = self.draws.draw_from(shortest_tick(cfg), longest_tick(cfg));
-        let next = sum(world.time(), wait);
-        set_time(&mut self.tick_at, n, next);
+        let now = world.time();
+        let next = sum(now, wait);
+        self.tick_at.set(n, next, now);
     }
 
     /// An event comes that is no tick.

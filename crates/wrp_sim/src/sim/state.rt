@@ -1,6 +1,6 @@
 //! What a simulator holds.
 use crate::draws::Draws;
-use wrp_base::Tau;
+use crate::ticks::Ticks;
 use wrp_scene::{Fault, Scene};
 
 /// The frame that arrived last.
@@ -24,7 +24,7 @@ pub struct State {
     /// The faults that are left, in the order of their lines.
     pub faults: Vec<Fault>,
     /// When each node ticks next, in true time.
-    pub tick_at: Vec<Tau>,
+    pub tick_at: Ticks,
     /// The node whose tick came last, where no other event came since.
     pub ticked: Option<u8>,
     /// The frame that arrived last.

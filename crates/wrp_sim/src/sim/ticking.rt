@@ -16,10 +16,10 @@ use wrp_world::{Event, World};
 impl State {
     /// When a node ticks next.
     pub(super) fn tick_of(&self, n: u8) -> Tau
-        requires { n < length self.now.tick_at.items }
-        ensures { slice_get self.now.tick_at.items n ≡ Some result }
+        requires { n < length self.now.tick_at }
+        ensures { slice_get self.now.tick_at n ≡ Some result }
     {
-        self.tick_at[usize::from(n)]
+        self.tick_at.at(n)
     }
 
     // Whether the tick time of a node is now; a node that is down has none.
@@ -39,8 +39,8 @@ impl State {
         }
     }
 
-    // The first node whose tick time is now.
-    fn first_tick<F: Fn(i64) -> i64>(&self, world: &World<F>) -> Option<u8>
+    // The first node whose tick time is now: all are asked.
+    fn look_for_tick<F: Fn(i64) -> i64>(&self, world: &World<F>) -> Option<u8>
         requires valid { IsValid F.pre F.post world.now }
         requires fits { FitsSim world.now.plant.net.cfg self.now }
         ensures value { (s : Setting) (w : WorldAt) (at : SimAt) → StandsFor F.post s w world.now → SimIs at self.now
@@ -54,6 +54,22 @@ impl State {
             }
         }
         None
+    }
+
+    // The first node whose tick time is now: none is asked where it is known that there is none.
+    fn first_tick<F: Fn(i64) -> i64>(&self, world: &World<F>) -> Option<u8>
+        requires valid { IsValid F.pre F.post world.now }
+        requires fits { FitsSim world.now.plant.net.cfg self.now }
+        ensures value { (s : Setting) (w : WorldAt) (at : SimAt) → StandsFor F.post s w world.now → SimIs at self.now
+            → result ≡ find (rule.ticks_now w at) (nodes_of s) }
+        ensures within { IfSome result (λ n. n < length world.now.nodes) }
+    {
+        let now = world.time();
+        if self.tick_at.none_at(now) {
+            None
+        } else {
+            self.look_for_tick(world)
+        }
     }
 
     /// A node ticks whose tick time is now.

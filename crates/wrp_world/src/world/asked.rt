@@ -1,10 +1,11 @@
 //! What one asks of a world who makes its events.
-ghost use Rattle.std.specs.Prelude.{◌≡◌, ◌<◌, ◌≤◌, ◌^◌, ◌-ℤ◌, length, false, option_map, slice_get, unsigned_abs, IfSome, Some};
+ghost use Rattle.std.specs.Prelude.{◌≡◌, ◌<◌, ◌≤◌, ◌^◌, ◌-ℤ◌, ◌||◌, length, false, option_map, slice_get, unsigned_abs, IfSome, Some};
 ghost use Rattle.wrp_base.specs.Clock.{steps_of_period};
+ghost use Rattle.wrp_base.specs.declared.link.Role.TheVariants.{Master, Slave};
 ghost use Rattle.wrp_network.specs.Network.{HasLinkRanges, HasNodeRanges};
 ghost use Rattle.wrp_node.specs.NodeAt.{dac_of};
 ghost use Rattle.wrp_plant.specs.Flights.{end_to};
-ghost use Rattle.wrp_plant.specs.PutOut.{NoneIsPutOut, first_put_out, puts_out};
+ghost use Rattle.wrp_plant.specs.PutOut.{NoneIsPutOut, first_put_out, puts_out, puts_out_at};
 ghost use Rattle.wrp_course.specs.Setting.{Setting, above, end_at, entry_at, node_setting_of, place_of as place_in};
 ghost use Rattle.wrp_course.specs.Views as view;
 ghost use Rattle.wrp_course.specs.WorldAt.{WorldAt, first_name, has_carrier, reading};
@@ -164,6 +165,15 @@ impl<F: Fn(i64) -> i64> World<F> {
             → NoneIsPutOut s w }
     {
         self.plant.puts_out_now()
+    }
+
+    /// Whether a frame that was put out now is the oldest that waits at an end of a link.
+    pub fn puts_out_over(&self, link: u8) -> bool
+        requires valid { IsValid F.pre F.post self.now }
+        requires link { link < length self.now.plant.net.cfg.links.items }
+        ensures { Tells F.post (λ s w. puts_out_at w link Master || puts_out_at w link Slave) self.now result }
+    {
+        self.plant.puts_out_over(link)
     }
 
     /// The first port, by nodes in file order and then ascending, at which the oldest frame that waits was put

@@ -11,11 +11,13 @@ ghost use Rattle.wrp_course.specs.EventAt.{IsPass};
 ghost use Rattle.wrp_course.specs.Moved.{drift_of};
 ghost use Rattle.wrp_course.specs.Premises as premise;
 ghost use Rattle.wrp_course.specs.Setting.{Setting, nodes_of};
-ghost use Rattle.wrp_world.specs.StandsFor.{IsValid, StandsFor, Tells};
+ghost use Rattle.wrp_world.specs.StandsFor.{IsValid, StandsFor, Tells, up_of};
+ghost use Rattle.wrp_world.specs.Steered.{steering_of};
 ghost use Rattle.wrp_plant.specs.Tried.{steered_rate};
 ghost use Rattle.wrp_course.specs.WorldAt.{WorldAt};
 
 use super::World;
+use crate::Steering;
 use arrayvec::ArrayVec;
 use wrp_base::ServoState;
 use wrp_course::Breach;
@@ -43,7 +45,7 @@ fn steered_rate(locked: bool, state: ServoState, cfg: &NodeCfg) -> Option<u64>
 }
 
 // That of a clock whose node may be down.
-fn rate_where(up: bool, steered: Option<u64>) -> Option<u64>
+fn steered_where(up: bool, steered: Option<u64>) -> Option<u64>
     ensures { result ≡ (if up then steered else None) }
 {
     if up { steered } else { None }
@@ -67,12 +69,39 @@ impl<F: Fn(i64) -> i64> World<F> {
         ensures value { Tells F.post (λ s w. premise.rate_of s w n) self.now result }
         ensures most { IfSome result (λ rate. rate ≤ 1_000_000_000) }
     {
-        let up = self.plant.is_up(n);
+        let up = self.is_up(n);
+        self.rate_where(n, up)
+    }
+
+    /// How the clock of a node is steered. `None` exactly where it is down.
+    pub fn steering(&self, n: u8) -> Option<Steering>
+        requires valid { IsValid F.pre F.post self.now }
+        requires node { n < length self.now.nodes }
+        ensures value { Tells F.post (λ s w. steering_of s w n) self.now result }
+        ensures most { IfSome result (λ it. IfSome it.kept (λ rate. rate ≤ 1_000_000_000)) }
+    {
+        if self.is_up(n) {
+            let dac = self.dac(n);
+            let kept = self.rate_where(n, true);
+            Some(Steering { dac, kept })
+        } else {
+            None
+        }
+    }
+
+    // The rate that the clock of a node keeps, of which it is known whether it is up.
+    fn rate_where(&self, n: u8, up: bool) -> Option<u64>
+        requires valid { IsValid F.pre F.post self.now }
+        requires node { n < length self.now.nodes }
+        requires up { Tells F.post (up_of n) self.now up }
+        ensures value { Tells F.post (λ s w. premise.rate_of s w n) self.now result }
+        ensures most { IfSome result (λ rate. rate ≤ 1_000_000_000) }
+    {
         let node = self.node(n);
         let locked = node.locked();
         let state = node.servo();
         let cfg = self.plant.node_cfg(n);
-        match rate_where(up, steered_rate(locked, state, cfg)) {
+        match steered_where(up, steered_rate(locked, state, cfg)) {
             Some(rate) => Some(rate),
             None => self.still_rate(n),
         }

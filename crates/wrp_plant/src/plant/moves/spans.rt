@@ -1,5 +1,5 @@
 //! Fibres that move, are joined and are cut, and frames that are lost as they wait.
-ghost use Rattle.std.specs.Prelude.{◌≡◌, ◌<◌, ◌≤◌, ◌+ℤ◌, ◌^◌, pos, true, length, slice_get, Some, unsigned_abs};
+ghost use Rattle.std.specs.Prelude.{◌≡◌, ◌<◌, ◌≤◌, ◌+ℤ◌, ◌^◌, ℕ, pos, true, length, slice_get, Some, unsigned_abs};
 ghost use Rattle.wrp_course.specs.Moved.{move_of};
 ghost use Rattle.wrp_plant.specs.Moves.{At, Cuts, Drops, DropsAt, Empties, Joins, Moves, EachBecame, Where, touches_in};
 ghost use Rattle.wrp_plant.specs.Plant.{Each};
@@ -87,13 +87,35 @@ fn move_one(span: &mut Span, moves: &[(i64, i64)], k: usize)
     }
 }
 
-/// The delays of each link move by its own of the moves.
-pub fn move_fibres(spans: &mut Vec<Span>, moves: &[(i64, i64)])
+// Whether no fibre moves.
+fn all_stay(moves: &[(i64, i64)]) -> bool
+    ensures { result ≡ true → (k : ℕ) → move_of moves.now k ≡ (pos 0, pos 0) }
+{
+    for k in 0..moves.len() {
+        if !stays_at(moves, k) {
+            return false;
+        }
+    }
+    true
+}
+
+// The delays of each link move by its own of the moves.
+fn move_each(spans: &mut Vec<Span>, moves: &[(i64, i64)])
     requires { Each (λ k span. IsDelay span.fibre.ms × IsDelay span.fibre.sm) spans.old.items }
     ensures { EachBecame (Moves moves.now) spans.old.items spans.new.items }
 {
     for k in 0..spans.len() {
         move_one(&mut spans[k], moves, k);
+    }
+}
+
+/// The delays of each link move by its own of the moves; where none moves, no link is looked at.
+pub fn move_fibres(spans: &mut Vec<Span>, moves: &[(i64, i64)])
+    requires { Each (λ k span. IsDelay span.fibre.ms × IsDelay span.fibre.sm) spans.old.items }
+    ensures { EachBecame (Moves moves.now) spans.old.items spans.new.items }
+{
+    if !all_stay(moves) {
+        move_each(spans, moves);
     }
 }
 

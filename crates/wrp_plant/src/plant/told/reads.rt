@@ -1,8 +1,8 @@
 //! What is read of a node's step.
-ghost use Rattle.std.specs.Prelude.{◌≡◌};
+ghost use Rattle.std.specs.Prelude.{◌≡◌, ℕ, true};
 ghost use Rattle.wrp_link.specs.Table.{is_same};
 ghost use Rattle.wrp_node.specs.States.{state_in};
-ghost use Rattle.wrp_plant.specs.PlantTold.{cycles_in, sends};
+ghost use Rattle.wrp_plant.specs.PlantTold.{SameRow, cycles_in, sends};
 
 use wrp_base::LinkState;
 use wrp_node::{Output, PortState};
@@ -48,4 +48,27 @@ pub fn is_same(from: LinkState, to: LinkState) -> bool
     ensures { result ≡ is_same from to }
 {
     from == to
+}
+
+// Whether two rows say the same.
+fn is_same_row(before: PortState, after: PortState) -> bool
+    ensures { result ≡ true → SameRow before after }
+{
+    before.port == after.port && is_same(before.state, after.state)
+}
+
+/// Whether the link states of ports are the same, row by row.
+pub fn are_same(before: &[PortState], after: &[PortState]) -> bool
+    ensures { result ≡ true → (p : ℕ)
+        → is_same (state_in p before.now) (state_in p after.now) ≡ true }
+{
+    if before.len() != after.len() {
+        return false;
+    }
+    for i in 0..before.len() {
+        if !is_same_row(before[i], after[i]) {
+            return false;
+        }
+    }
+    true
 }

@@ -1,5 +1,5 @@
 //! Which premise the modules break with which a node comes up, and what the network has of one.
-ghost use Rattle.std.specs.Prelude.{◌≡◌, ◌<◌, ◌≤◌, ◌^◌, ◌==◌, ◌∷◌, [], length, map, flat_map, not, true, false, slice_get, unsigned_abs, IfSome, Result};
+ghost use Rattle.std.specs.Prelude.{◌≡◌, ◌<◌, ◌≤◌, ◌-◌, ◌^◌, ◌==◌, ◌∷◌, [], length, map, flat_map, not, true, false, slice_get, unsigned_abs, IfSome, Result};
 ghost use Rattle.std.specs.Option.{is_some, option_map_or};
 ghost use Rattle.wrp_base.specs.Clock.{steps_of_period};
 ghost use Rattle.wrp_base.specs.declared.message.PtpMsg.{PtpMsg};
@@ -33,10 +33,13 @@ fn is_above(cfg: &NetCfg, k: usize, n: u8) -> bool
     }
 }
 
-// Whether the link above a node has the number one below the node's: so it is where links are in the order of
-// their lower nodes and the first node is the grandmaster.
-fn has_own_link(cfg: &NetCfg, n: u8) -> bool
-    ensures { result ≡ true → is_some (link_over cfg.now n) ≡ true }
+/// Whether the link above a node has the number one below the node's: so it is where links are in the order of
+/// their lower nodes and the first node is the grandmaster.
+pub fn has_own_link(cfg: &NetCfg, n: u8) -> bool
+    ensures above { result ≡ true → is_some (link_over cfg.now n) ≡ true }
+    ensures some { result ≡ true → 1 ≤ n }
+    ensures place { result ≡ true → option_map_or (λ link. link.lower == n)
+        (slice_get cfg.now.links.items (n - 1)) false ≡ true }
 {
     if n == 0 {
         return false;

@@ -1,54 +1,42 @@
--- The work on a network, told of the whole input; or its text cannot be read once more.
-use Rattle.std.proofs.Common.{ℕ, List, Ok, Err, refl, subst, sym}
-use Rattle.wrp_network_text.proofs.OneReading.{one_reading}
+-- What the work on a network says of the whole input; or there is no memory for a copy of the network.
+use Rattle.std.proofs.Common.{◌∙◌, subst, sym}
+use Rattle.std.proofs.KnownBytes.{Appends-nil}
 use Rattle.wrp_config.specs.declared.network.Network.{Network}
-use Rattle.wrp_network_text.specs.Reading.{IsReadingOf}
 use Rattle.wrp_config.specs.Same.{IsSameNetwork}
 use Rattle.wrp_records.specs.Passages.{passage}
 use Rattle.wrp_network_world.specs.NetworkSetting.{setting_in}
 use Rattle.wrp_asked.specs.Ends.{Run, begun_at}
 use Rattle.wrp_words.specs.Requests.{asked_in}
-use Rattle.wrp_asked.proofs.Asking.{TookNetwork, records_end, refused_ends, uncalled}
-use Rattle.wrp_asked.proofs.LoopEnding.{refused_unread}
-use Rattle.wrp_run.proofs.AskingWork.{WorkTask, asks_same, fits_same, work_networked, work_task}
+use Rattle.wrp_asked.proofs.Asking.{TookNetwork, memory_ends, records_end, uncalled}
+use Rattle.wrp_run.proofs.AskingWork.{WorkTask, asks_same, copy_read, copy_same, fits_same, work_task}
 use Rattle.wrp_run.proofs.network.work_behind.Goals as goal
 
 pub returns-in-Err-clause-ends : goal.returns-in-Err-clause-ends
 returns-in-Err-clause-ends g c = λ first front link same.
-    let asked = asked_in c.args.words.now in
-    let text = c.args.front.text.items in
     let run : Run = record {
-      asked = asked;
+      asked = asked_in c.args.words.now;
       source = begun_at first (passage g.S.Source.left g.S.Source.faults c.args.source.now c.args.source.now);
-      sink = passage g.K.Sink.held g.K.Sink.faults c.args.sink.now c.refuse_network.new.sink;
+      sink = passage g.K.Sink.held g.K.Sink.faults c.args.sink.now c.args.sink.now;
       link = link;
     } in
-    let reads = subst (λ (t : List ℕ). IsReadingOf t (Err c.in-Err.fault)) c.deref.ensures.value c.in-Err.ensures.refused in
-    refused_ends run c.refuse_network.result front.network text c.in-Err.fault c.args.reader.now
-    (work_networked asked c.args.front.net.value c.args.work c.requires.asks) front.taken front.divided front.within
-    front.at_end reads c.refuse_network.ensures.how c.refuse_network.ensures.rose (uncalled link same)
-
-pub returns-in-Err-clause-read : goal.returns-in-Err-clause-read
-returns-in-Err-clause-read g c = refused_unread c.in-Err.fault c.refuse_network.result _ _ _ c.refuse_network.ensures.how refl
+    memory_ends run (Appends-nil _) (uncalled link same)
 
 pub work_on-requires-clause-same : goal.work_on-requires-clause-same
 work_on-requires-clause-same g c =
-    let own = subst (λ (t : List ℕ). IsReadingOf t (Ok c.in-Ok.own.value)) c.deref.ensures.value c.in-Ok.ensures.reads in
     subst (λ (net : Network). IsSameNetwork net c.in-Ok.own.value) (sym c.deref-2.ensures)
-    (one_reading c.args.front.text.items (Ok c.args.front.net.value) (Ok c.in-Ok.own.value) c.requires.reads own)
+    (copy_same c.args.front.net.value c.in-Ok.own.value (c.in-Ok.ensures ∙ c.deref.ensures))
 
 pub work_on-requires-clause-work : goal.work_on-requires-clause-work
 work_on-requires-clause-work g c =
-    let own = subst (λ (t : List ℕ). IsReadingOf t (Ok c.in-Ok.own.value)) c.deref.ensures.value c.in-Ok.ensures.reads in
     fits_same c.args.front.net.value c.in-Ok.own.value c.args.work
-    (one_reading c.args.front.text.items (Ok c.args.front.net.value) (Ok c.in-Ok.own.value) c.requires.reads own) c.requires.fits
+    (copy_same c.args.front.net.value c.in-Ok.own.value (c.in-Ok.ensures ∙ c.deref.ensures)) c.requires.fits
 
 pub returns-clause-ends : goal.returns-clause-ends
 returns-clause-ends g c = λ first front.
     let asked = asked_in c.args.words.now in
     let text = c.args.front.text.items in
-    let own = subst (λ (t : List ℕ). IsReadingOf t (Ok c.in-Ok.own.value)) c.deref.ensures.value c.in-Ok.ensures.reads in
-    let same = one_reading text (Ok c.args.front.net.value) (Ok c.in-Ok.own.value) c.requires.reads own in
+    let own = copy_read text c.args.front.net.value c.in-Ok.own.value (c.in-Ok.ensures ∙ c.deref.ensures) c.requires.reads in
+    let same = copy_same c.args.front.net.value c.in-Ok.own.value (c.in-Ok.ensures ∙ c.deref.ensures) in
     let what : WorkTask asked text c.args.work (setting_in c.in-Ok.own.value) =
     work_task asked text c.args.work c.in-Ok.own.value
     (asks_same asked c.args.front.net.value c.in-Ok.own.value c.args.work same c.requires.asks) front.within own in

@@ -8,7 +8,7 @@ returns-clause-is c s v g taken step h q =
 
 pub returns-clause-fits : goal.returns-clause-fits
 returns-clause-fits c = told_fits c.args.news.now c.args.outs.now c.args.self.now c.tell.new.plant c.tell.ensures.told c.requires.step
-    c.tell.ensures.room c.requires.room c.tell.ensures.spare c.tell.ensures.put c.requires.fits
+    c.tell.ensures.spare c.tell.ensures.put c.requires.fits
 
 pub returns-clause-net : goal.returns-clause-net
 returns-clause-net c = ap₂ (λ a b. record c.args.self.now.net { cfg = a; db = b }) c.tell.ensures.told.cfg c.tell.ensures.told.db

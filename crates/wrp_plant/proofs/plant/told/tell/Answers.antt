@@ -1,40 +1,19 @@
-use Rattle.std.proofs.Common.{◌≡◌, ◌∙◌, ℕ, ℤ, Bool, List, refl, sym, subst, to_z, of_z, arith}
-use Rattle.std.proofs.lemmas.Int.{to_z-of_z}
-use Rattle.std.specs.Int.{w64, w128}
-use Rattle.wrp_base.specs.Clock.{period_of}
-use Rattle.wrp_course.specs.declared.clocks.ClockState.{ClockState}
-use Rattle.wrp_plant.specs.Moves.{At, EachBecame}
-use Rattle.wrp_plant.specs.PlantTold.{Steps, TellsAt, Told, cycles_in}
-use Rattle.wrp_plant.specs.Room.{HasRoom}
-use Rattle.wrp_plant.proofs.SignedReads.{read}
-use Rattle.wrp_plant.proofs.Sizing.{time_size}
+use Rattle.wrp_plant.proofs.QuietSteps.{put_both, room_there, spare_there, told_both}
 use Rattle.wrp_plant.proofs.plant.told.tell.Goals as goal
-
-read_both : (n : ℕ) (cycles now y z : ℤ) (period : ℕ) (ticked : Bool) (xs ys : List ClockState) → y ≡ cycles → z ≡ now →
-    EachBecame (At n (Steps y z period ticked)) xs ys → EachBecame (At n (Steps cycles now period ticked)) xs ys
-read_both n cycles now y z period ticked xs ys e f r =
-    subst (λ q. EachBecame (At n (Steps q now period ticked)) xs ys) e (subst (λ t. EachBecame (At n (Steps y t period ticked)) xs ys) f r)
 
 pub returns-clause-told : goal.returns-clause-told
 returns-clause-told c =
-    let now = read c.args.plant.now.time (omega (arith, time_size c.args.plant.now.events c.args.plant.now.time c.requires.fits.events c.requires.fits.time)) in
-    subst (Told c.args.news.now c.args.outs.now c.args.plant.now) (sym c.note.ensures)
-    (record {
-      cfg = refl;
-      db = refl;
-      time = refl;
-      count = refl;
-      of_clocks =
-          read_both c.args.news.now.node (cycles_in c.args.outs.now) c.args.plant.now.time
-          (to_z w64 (of_z w64 c.cycles_in-cycles.result)) (to_z w128 (of_z w128 c.args.plant.now.time)) (period_of c.args.plant.now.net.cfg.clock) c.args.news.now.ticked
-          c.args.plant.now.clocks.items c.step.new.clocks.items
-          (to_z-of_z w64 c.cycles_in-cycles.result (record { sfits = c.cycles_in-cycles.type_inv }) ∙ c.cycles_in-cycles.ensures) now c.step.ensures;
-      of_spans =
-          subst (λ t. EachBecame (TellsAt t c.args.news.now c.args.outs.now c.args.plant.now.net.cfg.links.items) c.args.plant.now.spans.items c.tell.new.spans.items)
-          now c.tell.ensures.told;
-      of_frames = refl;
-    })
+    told_both c.args.news.now c.args.outs.now c.args.plant.now c.step_clock.new.plant c.tell_where.new.plant c.step_clock.ensures.same c.step_clock.ensures.clocks c.tell_where.ensures
 
 pub returns-clause-room : goal.returns-clause-room
-returns-clause-room c k h =
-    subst (HasRoom k) (sym c.note.ensures) (c.tell.ensures.room k h)
+returns-clause-room c k h = c.tell_where.ensures.room k (room_there _ c.args.plant.now c.step_clock.new.plant c.step_clock.ensures.same h)
+
+pub returns-clause-put : goal.returns-clause-put
+returns-clause-put c =
+    put_both c.args.news.now c.args.outs.now c.args.plant.now c.step_clock.new.plant c.tell_where.new.plant c.step_clock.ensures.same c.tell_where.ensures
+
+pub returns-clause-spare : goal.returns-clause-spare
+returns-clause-spare c h = c.tell_where.ensures.spare (spare_there c.args.plant.now c.step_clock.new.plant c.step_clock.ensures.same h)
+
+pub tell_where-requires-clause-room : goal.tell_where-requires-clause-room
+tell_where-requires-clause-room c = room_there _ c.args.plant.now c.step_clock.new.plant c.step_clock.ensures.same c.requires.room

@@ -1,25 +1,13 @@
-use Rattle.std.proofs.Common.{◌∙◌, ap, sym, find, ℕ}
-use Rattle.wrp_course.specs.Setting.{from_on}
-use Rattle.wrp_sim.specs.Rules.{ticks_now}
-use Rattle.wrp_sim.proofs.Seen.{nodes_are}
-use Rattle.wrp_sim.proofs.SimLists.{find_end, found_at, passed_at}
+use Rattle.std.proofs.Common.{◌∙◌, ap, subst, arith}
+use Rattle.wrp_network.specs.declared.configuration.NetCfg.{NetCfg}
+use Rattle.wrp_network.specs.Network.{node_count}
+use Rattle.wrp_plant.proofs.SignedReads.{read}
+use Rattle.wrp_sim.specs.NextTick.{NoneAt}
+use Rattle.wrp_sim.proofs.NextMoments.{none_ticks}
 use Rattle.wrp_sim.proofs.sim.state.State.first_tick.Goals as goal
 
-pub returns-then-ticks_now-clause-value : goal.returns-then-ticks_now-clause-value
-returns-then-ticks_now-clause-value g c s w at h i =
-    sym (found_at (ticks_now w at) c.node_count-count.result c.loop-n.n c.loop-n-test.true (sym (c.ticks_now.ensures s w at h i) ∙ c.if-ticks_now.true))
-    ∙ c.loop-n.invariant s w at h i
-    ∙ ap (λ (n : ℕ). find (ticks_now w at) (from_on n 0)) c.node_count-count.ensures.value
-    ∙ ap (find (ticks_now w at)) (nodes_are _ _ s w c.args.world.now c.requires.valid h)
-
-pub loop-n-preserved : goal.loop-n-preserved
-loop-n-preserved g c s w at h i =
-    sym (passed_at (ticks_now w at) c.node_count-count.result c.loop-n.n c.loop-n-test.true (sym (c.ticks_now.ensures s w at h i) ∙ c.if-ticks_now.false))
-    ∙ c.loop-n.invariant s w at h i
-
-pub returns-clause-value : goal.returns-clause-value
-returns-clause-value g c s w at h i =
-    sym (find_end (ticks_now w at) c.node_count-count.result c.loop-n.n c.loop-n-test.false)
-    ∙ c.loop-n.invariant s w at h i
-    ∙ ap (λ (n : ℕ). find (ticks_now w at) (from_on n 0)) c.node_count-count.ensures.value
-    ∙ ap (find (ticks_now w at)) (nodes_are _ _ s w c.args.world.now c.requires.valid h)
+pub returns-then-none_at-clause-value : goal.returns-then-none_at-clause-value
+returns-then-none_at-clause-value g c s w at h i =
+    none_ticks s w at c.args.self.now.tick_at (c.requires.fits.ticks ∙ ap (λ (cfg : NetCfg). node_count cfg) h.plant.cfg) i.ticks
+    (subst (λ t. NoneAt t c.args.self.now.tick_at) (read c.time-now.result (omega (arith, c.time-now.ensures.size)) ∙ c.time-now.ensures.value s w h)
+    (c.none_at.ensures c.if-none_at.true))

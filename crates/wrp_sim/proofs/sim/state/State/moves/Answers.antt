@@ -16,8 +16,7 @@ returns g c s w h =
     ∙ c.drift_at.ensures
     ∙ ap₂ drift_at (to_z-of_z w64 c.args.dt c.ranges.dt)
     (to_z-of_z w64 c.held_to-rate.result held_fits ∙ c.held_to-rate.ensures.value
-    ∙ ap₂ held_to (c.rate-kept.ensures.value s w h)
+    ∙ ap (held_to c.args.steering.kept)
     (to_z-of_z w64 c.own_rate-own.result own_fits ∙ c.own_rate-own.ensures.value
-    ∙ ap₂ (λ (f b : ℤ). own_rate f c.dac-dac.result b) (to_z-of_z w64 c.free-free.result free_fits ∙ c.free-free.ensures.value)
-    (to_z-of_z w64 c.bias.result bias_fits ∙ c.bias.ensures.value s w h)
-    ∙ ap (λ (d : ℕ). own_rate (free_of c.args.self.now.scene c.args.n) d s.cfg.bias) (c.dac-dac.ensures s w h)))
+    ∙ ap₂ (λ (f b : ℤ). own_rate f c.args.steering.dac b) (to_z-of_z w64 c.free-free.result free_fits ∙ c.free-free.ensures.value)
+    (to_z-of_z w64 c.bias.result bias_fits ∙ c.bias.ensures.value s w h)))

@@ -14,7 +14,7 @@ returns-clause-ticks g c s w at h i =
     let cfg = ap (λ (net : Network). net.cfg) c.net.ensures ∙ h.plant.cfg in
     let value =
     read c.sum-next.result (omega (arith, c.sum-next.ensures.size)) ∙ c.sum-next.ensures.value ∙ ap₂ (λ a b. a +ℤ b)
-    (read c.time.result (omega (arith, c.time.ensures.size)) ∙ c.time.ensures.value s w h)
+    (read c.time-now.result (omega (arith, c.time-now.ensures.size)) ∙ c.time-now.ensures.value s w h)
     (read c.draw_from-wait.result (omega (arith, c.draw_from-wait.ensures.size)) ∙ c.draw_from-wait.ensures.value
     ∙ ap₂ (λ a b. drawn_from a b c.args.self.now.draws)
     (read c.shortest_tick.result (omega (arith, c.shortest_tick.ensures.size)) ∙ c.shortest_tick.ensures.value ∙ ap (λ (x : NetCfg). pos (shortest_tick x)) cfg)
@@ -25,8 +25,8 @@ returns-clause-ticks g c s w at h i =
       begun = i.begun;
       faults = i.faults;
       ticks =
-          subst (Each (λ m x. x ≡ (with_tick s w.time c.args.n at).tick_at m)) (sym c.set_time.ensures)
-          (ticks_set s w.time c.args.n at c.args.self.now.tick_at.items _ i.ticks value);
+          subst (Each (λ m x. x ≡ (with_tick s w.time c.args.n at).tick_at m)) (sym c.set.ensures)
+          (ticks_set s w.time c.args.n at c.args.self.now.tick_at _ i.ticks value);
       ticked = i.ticked;
       arrived = i.arrived;
     }

@@ -7,7 +7,7 @@ use Rattle.wrp_course.specs.Setting.{from_on}
 use Rattle.wrp_plant.proofs.SignedReads.{read}
 use Rattle.wrp_sim.specs.Rules.{sooner}
 use Rattle.wrp_sim.proofs.Moments.{tried_node, tried_nodes, untried_nodes}
-use Rattle.wrp_sim.proofs.sim.state.State.soonest_tick.Goals as goal
+use Rattle.wrp_sim.proofs.sim.state.State.soonest_of_all.Goals as goal
 
 pub loop-n-init : goal.loop-n-init
 loop-n-init g c =

@@ -6,7 +6,7 @@ use Rattle.wrp_course.specs.WorldAt.{WorldAt}
 use Rattle.wrp_sim.specs.Rules.{ticks_now}
 use Rattle.wrp_sim.specs.Sim.{SimIs}
 use Rattle.wrp_sim.specs.SimAt.{SimAt}
-use Rattle.wrp_sim.proofs.sim.state.State.first_tick.Given as goal
+use Rattle.wrp_sim.proofs.sim.state.State.look_for_tick.Given as goal
 
 abbrev pub invariant-loop-n : goal.invariant-loop-n
 invariant-loop-n g l =

@@ -1,0 +1,15 @@
+-- How the clock of a node is steered (this project's profile).
+use Rattle.std.specs.Prelude.{ℕ, if◌then◌else◌, Option, None, Some}
+use Rattle.wrp_node.specs.NodeAt.{dac_of}
+use Rattle.wrp_course.specs.Premises.{rate_of}
+use Rattle.wrp_course.specs.Setting.{Setting, node_setting_of}
+use Rattle.wrp_course.specs.WorldAt.{WorldAt}
+use Rattle.wrp_world.specs.declared.steering.Steering.{Steering}
+
+-- with the value of its DAC, and at the rate that it keeps, if it keeps one
+abbrev pub steering_in : Setting → WorldAt → ℕ → Steering
+steering_in s w n = record { dac = dac_of (node_setting_of s n) (w.node n); kept = rate_of s w n }
+
+-- where it is up
+abbrev pub steering_of : Setting → WorldAt → ℕ → Option Steering
+steering_of s w n = if (w.clock n).up then Some (steering_in s w n) else None
