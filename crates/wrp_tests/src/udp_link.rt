@@ -20,8 +20,8 @@ const FRAME: [u8; 56] = [
     0x08, 0x00, 0x30, 0xde, 0xad, 0x01, 0x10, 0x00,
 ];
 
-// An address of this machine, at a port that the system chooses.
-fn local() -> SocketAddrV4 {
+/// An address of this machine, at a port that the system chooses.
+pub fn local() -> SocketAddrV4 {
     SocketAddrV4::new(Ipv4Addr::LOCALHOST, 0)
 }
 
@@ -39,8 +39,8 @@ fn received<L: Link>(link: &mut L, end: u32) -> Result<Frame, Fail> {
     Err(Fail::from("nothing came"))
 }
 
-// Whether nothing waits at an end, and then the frame comes that is sent from the other end.
-fn carries<L: Link>(link: &mut L, from: u32, to: u32) -> Result<bool, Fail> {
+/// Whether nothing waits at an end, and then the frame comes that is sent from the other end.
+pub fn carries<L: Link>(link: &mut L, from: u32, to: u32) -> Result<bool, Fail> {
     if link.recv(to, &mut Frame::new()).ok().ok_or("recv")? {
         return Ok(false);
     }

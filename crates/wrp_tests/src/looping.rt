@@ -1,32 +1,14 @@
-//! What a link over sockets carries, and what `loop` makes of it.
-use crate::looping::{audited, looped, others};
+//! What `loop` makes of a link over sockets of this machine. These tests call the whole program.
+mod runs;
+
+use crate::udp_link::{carries, local};
+use runs::{audited, looped, others};
 use std::alloc::Global;
 use std::io;
-use std::net::{Ipv4Addr, Net, SocketAddr, SocketAddrV4, TcpListener, TcpStream, UdpSocket};
+use std::net::{Net, SocketAddr, TcpListener, TcpStream, UdpSocket};
 use std::test::Fail;
-use wrp_base::Frame;
 use wrp_io::{Link, UdpLink};
 use wrp_run::Status;
-
-// The Signaling message of a slave with SLAVE_PRESENT.
-const FRAME: [u8; 56] = [
-    0x0c, 0x02, 0x00, 0x38, 0x00, 0x00, 0x00, 0x00, 0x00, 0x00, 0x00, 0x00, 0x00, 0x00, 0x00, 0x00,
-    0x00, 0x00, 0x00, 0x00, 0x00, 0x1b, 0xc5, 0xff, 0xfe, 0x00, 0x00, 0x02, 0x00, 0x01, 0x00, 0x00,
-    0x05, 0x7f, 0x00, 0x1b, 0xc5, 0xff, 0xfe, 0x00, 0x00, 0x01, 0x00, 0x01, 0x00, 0x03, 0x00, 0x08,
-    0x08, 0x00, 0x30, 0xde, 0xad, 0x01, 0x10, 0x00,
-];
-
-// Whether a frame that is sent from one end is the first that comes at the other.
-fn carries<L: Link>(link: &mut L, from: u32, to: u32) -> Result<bool, Fail> {
-    link.send(from, &FRAME).ok().ok_or("send")?;
-    let mut out = Frame::new();
-    for _ in 0..1_000_000 {
-        if link.recv(to, &mut out).ok().ok_or("recv")? {
-            return Ok(out.as_slice() == FRAME.as_slice());
-        }
-    }
-    Ok(false)
-}
 
 // Whether a loop over a link comes to its end and hands frames over, and an audit of its events prints its other lines.
 fn loops<L: Link>(alloc: Global, link: &mut L) -> Result<bool, Fail> {
@@ -86,9 +68,9 @@ impl Net for Turning {
     }
 }
 
-// A socket on this machine, at a port that the system chooses.
+// A socket on this machine.
 fn socket<R: Net>(rt: &R) -> io::Result<UdpSocket> {
-    UdpSocket::bind(rt, SocketAddrV4::new(Ipv4Addr::LOCALHOST, 0))
+    UdpSocket::bind(rt, local())
 }
 
 // What the lower end of the first link sends is refused. The system says so at its next `recv`: when the first frame of the
