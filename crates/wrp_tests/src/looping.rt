@@ -1,35 +1,47 @@
 //! What `loop` makes of a link over sockets of this machine. These tests call the whole program.
 mod runs;
 
-use crate::udp_link::{carries, local};
+use crate::udp_link::{carries, local, start};
 use runs::{audited, looped, others};
-use std::alloc::Global;
+use std::alloc::{AllocError, Global};
 use std::io;
 use std::net::{Net, SocketAddr, TcpListener, TcpStream, UdpSocket};
+use std::process::Abort;
 use std::test::Fail;
 use wrp_io::{Link, UdpLink};
 use wrp_run::Status;
 
-// Whether a loop over a link comes to its end and hands frames over, and an audit of its events prints its other lines.
-fn loops<L: Link>(alloc: Global, link: &mut L) -> Result<bool, Fail> {
+// A link of two ends carries both ways.
+fn carries_both_ways<L: Link>(rt: &impl Abort, link: &mut L) -> Result<(), Fail> {
+    start(link, 2)?;
+    assert!(rt; carries(link, 0, 1)?, "down");
+    assert!(rt; carries(link, 1, 0)?, "up");
+    Ok(())
+}
+
+// Whether an audit of the events of a loop comes to its end, and prints the other lines of the loop.
+fn is_audited(alloc: Global, text: &str) -> Result<bool, AllocError> {
+    let other_lines = others(alloc, text)?;
+    let audit = audited(alloc, text)?;
+    Ok(audit.status == Status::Done && audit.text.as_str() == other_lines.as_str())
+}
+
+// A loop over a link comes to its end and hands frames over, and an audit of its events prints its other lines.
+fn loops<L: Link>(rt: &impl Abort, alloc: Global, link: &mut L) -> Result<(), Fail> {
     let run = looped(alloc, link)?;
-    let audit = audited(alloc, run.text.as_str())?;
-    let other_lines = others(alloc, run.text.as_str())?;
-    let hands_over = run.text.lines().any(|line| line.starts_with("= deliver"));
-    let are_done = run.status == Status::Done && audit.status == Status::Done;
-    Ok(are_done && hands_over && audit.text.as_str() == other_lines.as_str())
+    assert_eq!(rt; run.status, Status::Done);
+    assert!(rt;
+        run.text.as_str().contains("\n= deliver"),
+        "nothing is handed over"
+    );
+    assert!(rt; is_audited(alloc, run.text.as_str())?, "the audit");
+    Ok(())
 }
 
 #[test]
 fn udp_carries(rt: HostRuntime) -> Result<(), Fail> {
-    let mut link = UdpLink::new(&rt, rt.alloc());
-    link.start(2).ok().ok_or("start")?;
-    for (from, to) in [(0, 1), (1, 0)] {
-        assert!(rt; carries(&mut link, from, to)?);
-    }
-    let mut new_link = UdpLink::new(&rt, rt.alloc());
-    assert!(rt; loops(rt.alloc(), &mut new_link)?);
-    Ok(())
+    carries_both_ways(&rt, &mut UdpLink::new(&rt, rt.alloc()))?;
+    loops(&rt, rt.alloc(), &mut UdpLink::new(&rt, rt.alloc()))
 }
 
 // A system that gives four sockets, the ends of two links. When it gives the third one, it connects the second one to that.
@@ -73,30 +85,48 @@ fn socket<R: Net>(rt: &R) -> io::Result<UdpSocket> {
     UdpSocket::bind(rt, local())
 }
 
-// What the lower end of the first link sends is refused. The system says so at its next `recv`: when the first frame of the
-// upper end arrives. What was written before stands, and the audit of these events prints it again.
-#[test]
-fn refused_datagrams_end_a_loop(rt: HostRuntime) -> Result<(), Fail> {
-    let alloc = rt.alloc();
-    let system = Turning {
-        sockets: [socket(&rt)?, socket(&rt)?, socket(&rt)?, socket(&rt)?],
-    };
-    let run = looped(alloc, &mut UdpLink::new(&system, alloc))?;
-    assert_eq!(rt; run.status, Status::LinkFault);
-    let (before, after) = run
-        .text
-        .split_once("= depart,gm,1,")
-        .ok_or("a frame of gm")?;
+// A system with four sockets of this machine.
+fn turning<R: Net>(rt: &R) -> io::Result<Turning> {
+    Ok(Turning {
+        sockets: [socket(rt)?, socket(rt)?, socket(rt)?, socket(rt)?],
+    })
+}
+
+// A run ends when the first frame of the upper end arrives, after the lower end's first one departed.
+fn ends_at_first_arrival(rt: &impl Abort, text: &str) -> Result<(), Fail> {
+    let (before, after) = text.split_once("= depart,gm,1,").ok_or("a frame of gm")?;
     assert!(rt;
         before.contains("= depart,sw1,1,") && !after.contains("= arrive,"),
         "{after}"
     );
-    let audit = audited(alloc, run.text.as_str())?;
-    let other_lines = others(alloc, run.text.as_str())?;
+    Ok(())
+}
+
+// The audit of the events of a run prints its other lines again, before any more.
+fn is_printed_again(rt: &impl Abort, alloc: Global, text: &str) -> Result<(), Fail> {
+    let other_lines = others(alloc, text)?;
+    let audit = audited(alloc, text)?;
     assert!(rt;
         audit.text.starts_with(other_lines.as_str()),
         "{}",
         audit.text
     );
     Ok(())
+}
+
+// A loop over a link ends by a fault of the link. What was written before stands.
+fn ends_by_fault<L: Link>(rt: &impl Abort, alloc: Global, link: &mut L) -> Result<(), Fail> {
+    let run = looped(alloc, link)?;
+    assert_eq!(rt; run.status, Status::LinkFault);
+    ends_at_first_arrival(rt, run.text.as_str())?;
+    is_printed_again(rt, alloc, run.text.as_str())
+}
+
+// What the lower end of the first link sends is refused. The system says so at its next `recv`: when the first frame of the
+// upper end arrives. What was written before stands, and the audit of these events prints it again.
+#[test]
+fn refused_datagrams_end_a_loop(rt: HostRuntime) -> Result<(), Fail> {
+    let system = turning(&rt)?;
+    let mut link = UdpLink::new(&system, rt.alloc());
+    ends_by_fault(&rt, rt.alloc(), &mut link)
 }
