@@ -1,4 +1,4 @@
-"""Reads the case files of a program of cases, whose format docs/CASES.md tells: their texts, and the words and the input of each case."""
+"""Reads the case files of the program of cases, whose format docs/CASES.md tells: their texts, and the words and the input of each case."""
 import os
 import re
 

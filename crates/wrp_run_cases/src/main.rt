@@ -1,10 +1,14 @@
-//! `wrp_run_cases`: cases on the top call, of nine kinds. A case `run` hands its words and its input to `run`, and what
+//! `wrp_run_cases`: the program that runs all cases. Its words name case files; docs/CASES.md says what is in one. Each case
+//! that differs is reported on standard error, and `N passed, M failed` is printed; the process ends with 1 where one failed.
+//!
+//! The kinds of this crate are nine, on the top call. A case `run` hands its words and its input to `run`, and what
 //! the sink takes and the number of the status are due; `reads` and `writes` do so with each call of the source and of the
-//! sink failing in its turn; `cuts` audits the first octets of an input, however many they are; `migrated` tells what the
-//! calibration text says that a run writes; `tracks` tells the bounds of a run's `track` lines; a `projection` replays what
-//! an audit gives each of its nodes; `carried` is a loop over a link that carries what the case says; and `number` tells the
-//! number of a status. Each case that differs is told on standard error, and `N passed, M failed` is printed; the process
-//! ends with 1 where one failed.
+//! sink failing in its turn; `cuts` audits the first octets of an input, however many they are; `migrated` says what the
+//! calibration text says that a run writes; `tracks` gives the bounds of a run's `track` lines; a `projection` replays what
+//! an audit gives each of its nodes; `carried` is a loop over a link that carries what the case says; and `number` gives the
+//! number of a status. All other kinds are those of `wrp_part_cases`, `wrp_text_cases`, `wrp_node_cases`, `wrp_line_cases`
+//! and `wrp_carrier_cases`. They are libraries, since a library costs its proof alone, and a program two builds of all
+//! that is below it.
 #![tactic(auto)]
 
 mod calls;
@@ -24,9 +28,14 @@ mod tracks;
 use std::alloc::Global;
 use std::io;
 use std::process::ExitCode;
+use wrp_carrier_cases::Carriers;
+use wrp_line_cases::Lines;
+use wrp_node_cases::NodeParts;
+use wrp_part_cases::Parts;
 use wrp_suite::{Answer, Case, Fault, Kinds, run_files};
+use wrp_text_cases::Texts;
 
-/// The top call.
+// The top call.
 struct TopCall;
 
 impl Kinds for TopCall {
@@ -46,7 +55,33 @@ impl Kinds for TopCall {
     }
 }
 
+// The calls of all crates.
+struct AllCalls;
+
+// What the calls of a crate answer, where those before them have no case of this kind.
+fn or_else<K: Kinds>(
+    before: Result<Answer, Fault>,
+    alloc: Global,
+    case: &Case,
+) -> Result<Answer, Fault> {
+    match before {
+        Err(Fault::Word) => K::answer(alloc, case),
+        known => known,
+    }
+}
+
+impl Kinds for AllCalls {
+    fn answer(alloc: Global, case: &Case) -> Result<Answer, Fault> {
+        let top_call = TopCall::answer(alloc, case);
+        let part = or_else::<Parts>(top_call, alloc, case);
+        let text = or_else::<Texts>(part, alloc, case);
+        let node = or_else::<NodeParts>(text, alloc, case);
+        let line = or_else::<Lines>(node, alloc, case);
+        or_else::<Carriers>(line, alloc, case)
+    }
+}
+
 fn main(rt: HostRuntime) -> io::Result<ExitCode> {
-    let passed = run_files::<TopCall, HostRuntime>(&rt)?;
+    let passed = run_files::<AllCalls, HostRuntime>(&rt)?;
     Ok(ExitCode::from(if passed { 0 } else { 1 }))
 }

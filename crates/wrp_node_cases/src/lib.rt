@@ -1,6 +1,5 @@
 //! `wrp_node_cases`: cases on a node, and on a port and a servo by themselves. For each line of a case's input is due
-//! what comes of it, a line each (`told`). It tells of each case that differs on standard error, and prints
-//! `N passed, M failed`; the process ends with 1 where one failed.
+//! what comes of it, a line each (`told`). The program `wrp_run_cases` has the cases, in `data/node/`.
 #![tactic(auto)]
 
 mod names;
@@ -10,12 +9,10 @@ mod servo;
 mod told;
 
 use std::alloc::Global;
-use std::io;
-use std::process::ExitCode;
-use wrp_suite::{Answer, Case, Fault, Kinds, run_files};
+use wrp_suite::{Answer, Case, Fault, Kinds};
 
 /// A node, a port and a servo.
-struct NodeParts;
+pub struct NodeParts;
 
 impl Kinds for NodeParts {
     fn answer(alloc: Global, case: &Case) -> Result<Answer, Fault> {
@@ -26,9 +23,4 @@ impl Kinds for NodeParts {
             _ => Err(Fault::Word),
         }
     }
-}
-
-fn main(rt: HostRuntime) -> io::Result<ExitCode> {
-    let passed = run_files::<NodeParts, HostRuntime>(&rt)?;
-    Ok(ExitCode::from(if passed { 0 } else { 1 }))
 }

@@ -1,5 +1,6 @@
 //! `wrp_part_cases`: cases on the calls of the crates below a port: frames, TLVs, numbers, laws, phases, a loop and
-//! its lock detector, a link, verdicts on handshakes and exchanges. Each module tells what a case of its kind says.
+//! its lock detector, a link, verdicts on handshakes and exchanges. Each module tells what a case of its kind says. The
+//! program `wrp_run_cases` has the cases, in `data/part/`.
 #![tactic(auto)]
 
 mod arithmetic;
@@ -19,12 +20,10 @@ mod verdicts;
 mod words;
 
 use std::alloc::Global;
-use std::io;
-use std::process::ExitCode;
-use wrp_suite::{Answer, Case, Fault, Kinds, run_files};
+use wrp_suite::{Answer, Case, Fault, Kinds};
 
-// The calls of the crates below a port.
-struct Parts;
+/// The calls of the crates below a port.
+pub struct Parts;
 
 impl Kinds for Parts {
     fn answer(alloc: Global, case: &Case) -> Result<Answer, Fault> {
@@ -42,9 +41,4 @@ impl Kinds for Parts {
             _ => Err(Fault::Word),
         }
     }
-}
-
-fn main(rt: HostRuntime) -> io::Result<ExitCode> {
-    let passed = run_files::<Parts, HostRuntime>(&rt)?;
-    Ok(ExitCode::from(if passed { 0 } else { 1 }))
 }

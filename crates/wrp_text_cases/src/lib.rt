@@ -1,5 +1,5 @@
-//! `wrp_text_cases`: cases on the calls that read texts, and on the machines that stand beside a node. Its words name
-//! case files; `wrp_suite` says what stands in one, and each module here which cases its call takes.
+//! `wrp_text_cases`: cases on the calls that read texts, and on the machines beside a node. Each module says which
+//! cases its call takes. The program `wrp_run_cases` has the cases, in `data/text/`.
 #![tactic(auto)]
 
 mod calibration;
@@ -19,12 +19,10 @@ mod telling;
 mod words;
 
 use std::alloc::Global;
-use std::io;
-use std::process::ExitCode;
-use wrp_suite::{Answer, Case, Fault, Kinds, run_files};
+use wrp_suite::{Answer, Case, Fault, Kinds};
 
-/// The calls that the cases make.
-struct Texts;
+/// The calls that read texts, and those of the machines beside a node.
+pub struct Texts;
 
 impl Kinds for Texts {
     fn answer(alloc: Global, case: &Case) -> Result<Answer, Fault> {
@@ -43,12 +41,4 @@ impl Kinds for Texts {
             _ => Err(Fault::Word),
         }
     }
-}
-
-fn main(rt: HostRuntime) -> io::Result<ExitCode> {
-    Ok(ExitCode::from(if run_files::<Texts, HostRuntime>(&rt)? {
-        0
-    } else {
-        1
-    }))
 }
