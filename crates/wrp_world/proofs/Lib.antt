@@ -9,7 +9,7 @@ pub mod NewWorlds
 pub mod NodeSteps
 pub mod NodesTake
 pub mod RunsOn
-pub mod Steering
+pub mod KeptRates
 pub mod TakenLaws
 pub mod TakenRuns
 pub mod TrueRuns
