@@ -9,7 +9,7 @@ pub mod NewWorlds
 pub mod NodeSteps
 pub mod NodesTake
 pub mod RunsOn
-pub mod KeptRates
+pub mod Steering
 pub mod TakenLaws
 pub mod TakenRuns
 pub mod TrueRuns
