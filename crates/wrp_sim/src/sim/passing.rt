@@ -16,7 +16,7 @@ use super::numbers::{drift_at, held_to, is_by, own_rate};
 use super::state::State;
 use arrayvec::ArrayVec;
 use wrp_base::{Tau, difference, narrow, sum};
-use wrp_world::{Event, Steering, World, start_of};
+use wrp_world::{Event, Steer, World, start_of};
 
 /// The longest time that passes at once, in tau.
 const LONGEST: i128 = 1 << 62;
@@ -275,7 +275,7 @@ impl State {
     }
 
     // How far the clock of a node that is steered so moves in a time.
-    fn moves<F: Fn(i64) -> i64>(&self, world: &World<F>, dt: i64, n: u8, steering: Steering) -> i64
+    fn moves<F: Fn(i64) -> i64>(&self, world: &World<F>, dt: i64, n: u8, steering: Steer) -> i64
         requires valid { IsValid F.pre F.post world.now }
         requires fits { FitsSim world.now.plant.net.cfg self.now }
         requires node { n < length world.now.nodes }
