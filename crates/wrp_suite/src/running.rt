@@ -1,10 +1,10 @@
 //! The run of a program of cases.
 use crate::answer::Answer;
 use crate::case::Case;
-use crate::difference::told;
+use crate::difference::compare;
 use crate::fault::Fault;
 use crate::suite::Suite;
-use std::alloc::Global;
+use std::alloc::{AllocError, Global};
 use std::rt::{Env, Files};
 use std::{env, fs, io};
 
@@ -15,126 +15,108 @@ pub trait Kinds {
     fn answer(alloc: Global, case: &Case) -> Result<Answer, Fault>;
 }
 
-/// How many cases passed, and how many failed.
-#[derive(Clone, Copy)]
-struct Counts {
+// What the files so far came to: how many cases passed, how many cases and lines failed, and how these differ.
+#[derive(Drop)]
+struct Run {
+    suite: Suite,
     passed: u32,
     failed: u32,
+    report: String,
 }
 
-impl Counts {
-    // Counts a case that passed.
-    fn pass(&mut self) {
-        self.passed = self.passed.saturating_add(1);
-    }
-
-    // Counts a case, or a line, that failed.
-    fn fail(&mut self) {
-        self.failed = self.failed.saturating_add(1);
-    }
-}
-
-// What is told of a case: nothing where its answer is what is due.
-fn told_of<K: Kinds>(alloc: Global, case: &Case) -> Result<Option<String>, Fault> {
-    let came = K::answer(alloc, case)?;
-    told(alloc, case, &came).map_err(Fault::from)
-}
-
-// Runs a case, and prints how it differs.
-fn run_case<K: Kinds, R: AllocGlobal + Eprint>(
-    rt: &R,
-    counts: &mut Counts,
+// Whether the answer of a case is what is due; a line of the report says how it differs.
+fn passes<K: Kinds>(
+    alloc: Global,
+    report: &mut String,
     file: &str,
     case: &Case,
-) -> io::Result<()> {
-    let name = case.name.as_str();
-    match told_of::<K>(rt.alloc(), case) {
-        Ok(None) => {
-            counts.pass();
-            Ok(())
-        }
-        Ok(Some(told)) => {
-            counts.fail();
-            eprintln!(rt; "{file}: {told}")
-        }
+) -> Result<bool, AllocError> {
+    match K::answer(alloc, case) {
+        Ok(came) => compare(report, file, case, &came),
         Err(fault) => {
-            counts.fail();
-            eprintln!(rt; "{file}: {name}: {fault}")
+            let name = case.name.as_str();
+            write!(report, "{file}: {name}: {fault}\n")?;
+            Ok(false)
         }
     }
 }
 
-// Takes a line of a file, and runs the case that ends with it.
-fn take_line<K: Kinds, R: AllocGlobal + Eprint>(
-    rt: &R,
-    suite: &mut Suite,
-    counts: &mut Counts,
-    file: &str,
-    number: u64,
-    line: &str,
-) -> io::Result<()> {
-    match suite.take(rt.alloc(), line) {
-        Ok(None) => Ok(()),
-        Ok(Some(case)) => run_case::<K, R>(rt, counts, file, &case),
-        Err(fault) => {
-            counts.fail();
-            eprintln!(rt; "{file}:{number}: {fault}")
+impl Run {
+    // No file yet.
+    fn new(alloc: Global) -> Run {
+        Run {
+            suite: Suite::new(alloc),
+            passed: 0,
+            failed: 0,
+            report: String::new(alloc),
         }
     }
+
+    // Counts a case, or a line that failed.
+    fn count(&mut self, is_good: bool) {
+        if is_good {
+            self.passed = self.passed.saturating_add(1);
+        } else {
+            self.failed = self.failed.saturating_add(1);
+        }
+    }
+
+    // Takes a line of a file, and runs the case that ends with it.
+    fn take_line<K: Kinds>(
+        &mut self,
+        alloc: Global,
+        file: &str,
+        number: u64,
+        line: &str,
+    ) -> Result<(), AllocError> {
+        let is_good = match self.suite.take(alloc, line) {
+            Ok(None) => return Ok(()),
+            Ok(Some(case)) => passes::<K>(alloc, &mut self.report, file, &case)?,
+            Err(fault) => {
+                write!(self.report, "{file}:{number}: {fault}\n")?;
+                false
+            }
+        };
+        self.count(is_good);
+        Ok(())
+    }
+
+    // Takes the lines of one file, and runs each case as it ends.
+    fn take_file<K: Kinds>(
+        &mut self,
+        alloc: Global,
+        file: &str,
+        text: &str,
+    ) -> Result<(), AllocError> {
+        self.suite.open();
+        let mut number = 0u64;
+        for line in text.split('\n') {
+            number = number.saturating_add(1);
+            self.take_line::<K>(alloc, file, number, line)?;
+        }
+        if !self.suite.is_closed() {
+            self.count(false);
+            write!(
+                self.report,
+                "{file}: its closing count is missing, or another\n"
+            )?;
+        }
+        Ok(())
+    }
 }
 
-// Takes the lines of one file, and runs each case as it ends.
-fn take_file<K: Kinds, R: AllocGlobal + Eprint>(
-    rt: &R,
-    suite: &mut Suite,
-    counts: &mut Counts,
-    file: &str,
-    text: &str,
-) -> io::Result<()> {
-    suite.open();
-    let mut number = 0u64;
-    for line in text.split('\n') {
-        number = number.saturating_add(1);
-        take_line::<K, R>(rt, suite, counts, file, number, line)?;
-    }
-    if suite.is_closed() {
-        return Ok(());
-    }
-    counts.fail();
-    eprintln!(rt; "{file}: its closing count is missing, or another")
-}
-
-// Runs the cases of one file.
+// Runs the cases of one file, and tells of each that differs.
 fn run_file<K: Kinds, R: AllocGlobal + Eprint + Files>(
     rt: &R,
-    suite: &mut Suite,
-    counts: &mut Counts,
+    run: &mut Run,
     file: &str,
 ) -> io::Result<()> {
     let text = fs::read_to_string(rt, file)?;
-    take_file::<K, R>(rt, suite, counts, file, text.as_str())
-}
-
-// Runs the cases of the files that the words after the program's name name, in their order.
-fn run_named<K: Kinds, R: AllocGlobal + Env + Eprint + Files>(
-    rt: &R,
-    suite: &mut Suite,
-    counts: &mut Counts,
-) -> io::Result<()> {
-    for file in env::args(rt)?.skip(1) {
-        run_file::<K, R>(rt, suite, counts, file.as_str())?;
-    }
+    run.take_file::<K>(rt.alloc(), file, text.as_str())?;
+    let report = run.report.as_str();
+    eprint!(rt; "{report}")?;
+    run.report.clear();
     Ok(())
-}
-
-// How many cases of these files passed, and how many failed.
-fn counts_of<K: Kinds, R: AllocGlobal + Env + Eprint + Files>(rt: &R) -> io::Result<Counts> {
-    let mut suite = Suite::new(rt.alloc());
-    let mut counts = Counts {
-        passed: 0,
-        failed: 0,
-    };
-    run_named::<K, R>(rt, &mut suite, &mut counts).map(|()| counts)
 }
 
 /// Runs the cases of the files that the words after the program's name name, in their order. It tells of each that
@@ -142,7 +124,11 @@ fn counts_of<K: Kinds, R: AllocGlobal + Env + Eprint + Files>(rt: &R) -> io::Res
 pub fn run_files<K: Kinds, R: AllocGlobal + Env + Eprint + Files + Print>(
     rt: &R,
 ) -> io::Result<bool> {
-    let Counts { passed, failed } = counts_of::<K, R>(rt)?;
+    let mut run = Run::new(rt.alloc());
+    for file in env::args(rt)?.skip(1) {
+        run_file::<K, R>(rt, &mut run, file.as_str())?;
+    }
+    let (passed, failed) = (run.passed, run.failed);
     println!(rt; "{passed} passed, {failed} failed")?;
     Ok(failed == 0 && passed > 0)
 }

@@ -35,30 +35,41 @@ fn mend(alloc: Global, case: &mut Case) -> Result<(), Fault> {
     Ok(())
 }
 
+// The words that set a number.
+const SETTINGS: [&str; 8] = [
+    "room",
+    "source",
+    "sink",
+    "gives",
+    "takes",
+    "left",
+    "calls",
+    "link_call",
+];
+
 // Appends the words of a line.
 fn push_words(alloc: Global, words: &mut Vec<String>, line: &str) -> Result<(), AllocError> {
-    for word in line.split(' ') {
-        if !word.is_empty() {
-            words.push(word.to_string(alloc)?)?;
-        }
+    for word in line.split_whitespace() {
+        words.push(word.to_string(alloc)?)?;
     }
     Ok(())
 }
 
-// Appends what a line gives to the input of a case, or to what is due.
+// Appends what a line gives to the input of a case, or to what is due. Answers whether it is such a line.
 fn push_octets(
     alloc: Global,
     case: &mut Case,
     texts: &[Text],
     head: &str,
     rest: &str,
-) -> Result<(), Fault> {
+) -> Result<bool, Fault> {
     if let Some(how) = head.strip_prefix('<') {
-        return push_piece(alloc, &mut case.input, texts, how, rest);
+        push_piece(alloc, &mut case.input, texts, how, rest)?;
+        return Ok(true);
     }
     match head.strip_prefix('>') {
-        Some(how) => push_piece(alloc, &mut case.due, texts, how, rest),
-        None => Err(Fault::Word),
+        Some(how) => push_piece(alloc, &mut case.due, texts, how, rest).map(|()| true),
+        None => Ok(false),
     }
 }
 
@@ -72,41 +83,24 @@ fn set(alloc: Global, case: &mut Case, name: &str, text: &str) -> Result<(), Fau
     Ok(())
 }
 
-// Whether a word sets a number.
-fn is_setting(head: &str) -> bool {
-    matches!(
-        head,
-        "room" | "source" | "sink" | "gives" | "takes" | "left" | "calls" | "link_call"
-    )
-}
-
-// Takes a line of a case.
+// Takes a line of a case. Answers whether it is one.
 fn take_part(
     alloc: Global,
     case: &mut Case,
     texts: &[Text],
     head: &str,
     rest: &str,
-) -> Result<(), Fault> {
+) -> Result<bool, Fault> {
     match head {
-        "words" => Ok(push_words(alloc, &mut case.words, rest)?),
-        "word" => Ok(case.words.push(rest.to_string(alloc)?)?),
-        "-" => Ok(push_part(&mut case.cut, rest)?),
-        "+" => Ok(push_part(&mut case.put, rest)?),
-        "status" => {
-            case.status = rest.parse::<u8>().ok().ok_or(Fault::Number)?;
-            Ok(())
-        }
-        _ if is_setting(head) => set(alloc, case, head, rest),
-        _ => push_octets(alloc, case, texts, head, rest),
+        "words" => push_words(alloc, &mut case.words, rest)?,
+        "word" => case.words.push(rest.to_string(alloc)?)?,
+        "-" => push_part(&mut case.cut, rest)?,
+        "+" => push_part(&mut case.put, rest)?,
+        "status" => case.status = rest.parse::<u8>().ok().ok_or(Fault::Number)?,
+        _ if SETTINGS.contains(&head) => set(alloc, case, head, rest)?,
+        _ => return push_octets(alloc, case, texts, head, rest),
     }
-}
-
-// Whether a word begins a line of a case.
-fn is_part(head: &str) -> bool {
-    head.starts_with(['<', '>', '-', '+'])
-        || is_setting(head)
-        || matches!(head, "words" | "word" | "status")
+    Ok(true)
 }
 
 impl Suite {
@@ -149,29 +143,21 @@ impl Suite {
         self.texts.push(Text { name, octets }).map_err(Fault::from)
     }
 
-    // Takes a case that ended: counts it, or keeps its text. Answers whether it makes a call.
-    fn finish(&mut self, alloc: Global, case: &mut Case) -> Result<bool, Fault> {
-        let calls = case.kind.as_str() != "text";
-        if calls {
-            self.ended = self.ended.saturating_add(1);
-        }
-        mend(alloc, case)?;
-        if !calls {
-            self.keep(alloc, case)?;
-        }
-        Ok(calls)
-    }
-
-    // Ends the case that has begun: keeps a text, and gives any other.
+    // Ends the case that has begun: keeps a text, and counts and gives any other.
     fn end_case(&mut self, alloc: Global) -> Result<Option<Case>, Fault> {
         let Some(mut case) = self.case.take() else {
             return Ok(None);
         };
-        match self.finish(alloc, &mut case) {
-            Ok(true) => Ok(Some(case)),
-            Ok(false) => Ok(None),
-            Err(fault) => Err(fault),
+        let is_text = case.kind.as_str() == "text";
+        if !is_text {
+            self.ended = self.ended.saturating_add(1);
         }
+        mend(alloc, &mut case)?;
+        if is_text {
+            self.keep(alloc, &mut case)?;
+            return Ok(None);
+        }
+        Ok(Some(case))
     }
 
     // Takes the closing count: the file is at its end where so many cases have ended.
@@ -179,22 +165,16 @@ impl Suite {
         self.closed = count.parse::<u32>().ok() == Some(self.ended);
     }
 
-    // Takes a line of the case that has begun.
-    fn take_line(&mut self, alloc: Global, head: &str, rest: &str) -> Result<(), Fault> {
-        match &mut self.case {
-            Some(case) => take_part(alloc, case, &self.texts, head, rest),
-            None => Err(Fault::Word),
-        }
-    }
-
-    /// Takes a line of a file. It gives the case that ends with it. A line that is refused is no line of any case.
+    /// Takes a line of a file. It gives the case that ends with it. A word that begins no line of a case begins a case; a
+    /// line of a case where none has begun begins one too, of which no call is known.
     pub fn take(&mut self, alloc: Global, line: &str) -> Result<Option<Case>, Fault> {
         if line.is_empty() || line.starts_with('#') {
             return Ok(None);
         }
         let (head, rest) = line.split_once(' ').unwrap_or((line, ""));
-        if is_part(head) {
-            self.take_line(alloc, head, rest)?;
+        if let Some(case) = &mut self.case
+            && take_part(alloc, case, &self.texts, head, rest)?
+        {
             return Ok(None);
         }
         let ended = self.end_case(alloc);
