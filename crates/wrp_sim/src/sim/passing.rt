@@ -79,13 +79,22 @@ fn between(now: Tau, next: Tau) -> i64
     narrow(difference(next, now))
 }
 
+// So many fibres that do not move.
+fn still(count: usize) -> &'static [(i64, i64)]
+    requires { count ≤ 63 }
+    ensures value { result.now ≡ map (λ k. (pos 0, pos 0)) (from_on count 0) }
+    ensures count { length result.now ≡ count }
+{
+    &STILL[..count]
+}
+
 // No fibre moves.
 fn put_moves(count: usize, moves: &mut ArrayVec<(i64, i64), 63>)
     requires { count ≤ 63 }
     ensures { moves.new.items ≡ map (λ k. (pos 0, pos 0)) (from_on count 0) }
 {
     moves.clear();
-    let _fits = moves.try_extend_from_slice(&STILL[..count]);
+    let _fits = moves.try_extend_from_slice(still(count));
 }
 
 // A time that passes, in place of another event; where one passed before, its lists stay where they are.
