@@ -1,18 +1,23 @@
 //! When nodes tick next, and the first of these times that is still to come.
 ghost use Rattle.std.specs.Prelude.{◌≡◌, ◌<◌, length, slice_get, slice_set, true, IfSome, Some};
-ghost use Rattle.wrp_sim.specs.NextTick.{IsAhead, IsNext, IsSoonest, NoneAt};
+ghost use Rattle.wrp_sim.specs.NextTick.{IsNext, IsSoonest, NoneAt};
 ghost use Rattle.wrp_sim.specs.NextTick as next;
 
 use std::marker::Model;
 use wrp_base::Tau;
+
+/// A time later than all others.
+const NEVER: Tau = 1 << 126;
 
 /// The first of some times that are not before a moment.
 #[derive(Clone, Copy)]
 pub struct Soonest {
     /// The moment.
     pub since: Tau,
-    /// Whose time is the first, and that time. `None` exactly where each is before the moment.
-    pub first: Option<(usize, Tau)>,
+    /// Of the times, none from the moment on is before this one.
+    pub best: Tau,
+    /// Where it is among them, if it is.
+    pub place: usize,
 }
 
 /// When each node ticks next, in true time. The first of these times is kept, so that no search is needed to
@@ -35,32 +40,11 @@ impl Model for Ticks {
     ghost invariant = { λ t. IsSoonest t.times.items t.soonest };
 }
 
-// The sooner of two times with whose they are; the first one where they are the same.
-fn sooner_of(m: usize, best: Tau, n: usize, at: Tau) -> (usize, Tau)
-    ensures { result ≡ next.sooner_of m best n at }
+// Whether a time is before another one, and not before a moment.
+fn is_sooner(since: Tau, best: Tau, at: Tau) -> bool
+    ensures { result ≡ next.is_sooner since best at }
 {
-    if best <= at { (m, best) } else { (n, at) }
-}
-
-// The same, where there is a first one.
-fn with_time(first: Option<(usize, Tau)>, n: usize, at: Tau) -> (usize, Tau)
-    ensures { result ≡ next.with_time first n at }
-{
-    match first {
-        Some((m, best)) => sooner_of(m, best, n, at),
-        None => (n, at),
-    }
-}
-
-// The same, where the time is not before a moment.
-fn with_later(since: Tau, first: Option<(usize, Tau)>, n: usize, at: Tau) -> Option<(usize, Tau)>
-    ensures { result ≡ next.with_later since first n at }
-{
-    if at < since {
-        first
-    } else {
-        Some(with_time(first, n, at))
-    }
+    at < best && since <= at
 }
 
 fn time_at(times: &[Tau], n: usize) -> Tau
@@ -74,29 +58,39 @@ fn time_at(times: &[Tau], n: usize) -> Tau
 fn soonest_from(times: &[Tau], since: Tau) -> Soonest
     ensures soonest { IsSoonest times.now result }
 {
-    let mut first = None;
+    let mut best = NEVER;
+    let mut place = 0;
     for n in 0..times.len() {
         let at = time_at(times, n);
-        first = with_later(since, first, n, at);
+        if is_sooner(since, best, at) {
+            best = at;
+            place = n;
+        }
     }
-    Soonest { since, first }
-}
-
-// Whether a time is after now, if there is one.
-fn is_after(first: Option<(usize, Tau)>, now: Tau) -> bool
-    ensures { result ≡ next.is_after first now }
-{
-    match first {
-        Some((_n, at)) => now < at,
-        None => true,
-    }
+    Soonest { since, best, place }
 }
 
 // Whether the moment has come, and the first time has not.
 fn is_ahead(it: Soonest, now: Tau) -> bool
     ensures { result ≡ next.is_ahead it now }
 {
-    it.since <= now && is_after(it.first, now)
+    it.since <= now && now < it.best
+}
+
+// The first time with its place, where it is there.
+fn at_place(times: &[Tau], it: Soonest) -> Option<(usize, Tau)>
+    ensures { IfSome result (λ next. (next.1 ≡ it.best) × (slice_get times.now next.0 ≡ Some next.1)) }
+{
+    if it.place < times.len() {
+        let at = time_at(times, it.place);
+        if at == it.best {
+            Some((it.place, at))
+        } else {
+            None
+        }
+    } else {
+        None
+    }
 }
 
 impl Ticks {
@@ -137,7 +131,7 @@ impl Ticks {
         ensures { IfSome result (λ next. IsNext now self.now next.0 next.1) }
     {
         if is_ahead(self.soonest, now) {
-            self.soonest.first
+            at_place(self.times.as_slice(), self.soonest)
         } else {
             None
         }

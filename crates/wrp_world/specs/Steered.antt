@@ -4,12 +4,12 @@ use Rattle.wrp_node.specs.NodeAt.{dac_of}
 use Rattle.wrp_course.specs.Premises.{rate_of}
 use Rattle.wrp_course.specs.Setting.{Setting, node_setting_of}
 use Rattle.wrp_course.specs.WorldAt.{WorldAt}
-use Rattle.wrp_world.specs.declared.steering.Steering.{Steering}
+use Rattle.wrp_world.specs.declared.steer.Steer.{Steer}
 
 -- with the value of its DAC, and at the rate that it keeps, if it keeps one
-abbrev pub steering_in : Setting → WorldAt → ℕ → Steering
+abbrev pub steering_in : Setting → WorldAt → ℕ → Steer
 steering_in s w n = record { dac = dac_of (node_setting_of s n) (w.node n); kept = rate_of s w n }
 
 -- where it is up
-abbrev pub steering_of : Setting → WorldAt → ℕ → Option Steering
+abbrev pub steering_of : Setting → WorldAt → ℕ → Option Steer
 steering_of s w n = if (w.clock n).up then Some (steering_in s w n) else None

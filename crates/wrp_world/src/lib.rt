@@ -4,12 +4,12 @@
 
 mod outcome;
 mod run_laws;
-mod steering;
+mod steer;
 mod world;
 
 pub use outcome::Refused;
 pub use run_laws::{events_hold, worlds_are_in_runs};
-pub use steering::Steering;
+pub use steer::Steer;
 pub use world::World;
 pub use wrp_course::{Event, NodeOut, Swap};
 pub use wrp_plant::{longest_tick, shortest_tick, start_of};

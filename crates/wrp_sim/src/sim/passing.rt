@@ -16,7 +16,7 @@ use super::numbers::{drift_at, held_to, is_by, own_rate};
 use super::state::State;
 use arrayvec::ArrayVec;
 use wrp_base::{Tau, difference, narrow, sum};
-use wrp_world::{Event, Steering, World, start_of};
+use wrp_world::{Event, Steer, World, start_of};
 
 /// The longest time that passes at once, in tau.
 const LONGEST: i128 = 1 << 62;
@@ -79,13 +79,22 @@ fn between(now: Tau, next: Tau) -> i64
     narrow(difference(next, now))
 }
 
+// So many fibres that do not move.
+fn still(count: usize) -> &'static [(i64, i64)]
+    requires { count ≤ 63 }
+    ensures value { result.now ≡ map (λ k. (pos 0, pos 0)) (from_on count 0) }
+    ensures count { length result.now ≡ count }
+{
+    &STILL[..count]
+}
+
 // No fibre moves.
 fn put_moves(count: usize, moves: &mut ArrayVec<(i64, i64), 63>)
     requires { count ≤ 63 }
     ensures { moves.new.items ≡ map (λ k. (pos 0, pos 0)) (from_on count 0) }
 {
     moves.clear();
-    let _fits = moves.try_extend_from_slice(&STILL[..count]);
+    let _fits = moves.try_extend_from_slice(still(count));
 }
 
 // A time that passes, in place of another event; where one passed before, its lists stay where they are.
@@ -275,7 +284,7 @@ impl State {
     }
 
     // How far the clock of a node that is steered so moves in a time.
-    fn moves<F: Fn(i64) -> i64>(&self, world: &World<F>, dt: i64, n: u8, steering: Steering) -> i64
+    fn moves<F: Fn(i64) -> i64>(&self, world: &World<F>, dt: i64, n: u8, steering: Steer) -> i64
         requires valid { IsValid F.pre F.post world.now }
         requires fits { FitsSim world.now.plant.net.cfg self.now }
         requires node { n < length world.now.nodes }

@@ -17,7 +17,7 @@ ghost use Rattle.wrp_plant.specs.Tried.{steered_rate};
 ghost use Rattle.wrp_course.specs.WorldAt.{WorldAt};
 
 use super::World;
-use crate::Steering;
+use crate::Steer;
 use arrayvec::ArrayVec;
 use wrp_base::ServoState;
 use wrp_course::Breach;
@@ -74,7 +74,7 @@ impl<F: Fn(i64) -> i64> World<F> {
     }
 
     /// How the clock of a node is steered. `None` exactly where it is down.
-    pub fn steering(&self, n: u8) -> Option<Steering>
+    pub fn steering(&self, n: u8) -> Option<Steer>
         requires valid { IsValid F.pre F.post self.now }
         requires node { n < length self.now.nodes }
         ensures value { Tells F.post (λ s w. steering_of s w n) self.now result }
@@ -83,7 +83,7 @@ impl<F: Fn(i64) -> i64> World<F> {
         if self.is_up(n) {
             let dac = self.dac(n);
             let kept = self.rate_where(n, true);
-            Some(Steering { dac, kept })
+            Some(Steer { dac, kept })
         } else {
             None
         }

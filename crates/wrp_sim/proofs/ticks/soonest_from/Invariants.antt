@@ -3,4 +3,4 @@ use Rattle.wrp_sim.proofs.NextTicks.{SoonestTo}
 use Rattle.wrp_sim.proofs.ticks.soonest_from.Given as goal
 
 abbrev pub invariant-loop-n : goal.invariant-loop-n
-invariant-loop-n l = SoonestTo l.fn.since l.fn.times l.n l.first
+invariant-loop-n l = SoonestTo l.fn.since l.fn.times l.n l.best
