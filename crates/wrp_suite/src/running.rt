@@ -105,36 +105,18 @@ impl Run {
     }
 }
 
-// Runs the cases of one file.
-fn run_file<K: Kinds, R: AllocGlobal + Files>(rt: &R, run: &mut Run, file: &str) -> io::Result<()> {
+// Runs the cases of one file, and tells of each that differs.
+fn run_file<K: Kinds, R: AllocGlobal + Eprint + Files>(
+    rt: &R,
+    run: &mut Run,
+    file: &str,
+) -> io::Result<()> {
     let text = fs::read_to_string(rt, file)?;
-    Ok(run.take_file::<K>(rt.alloc(), file, text.as_str())?)
-}
-
-// Tells of the cases that differ.
-fn tell<R: Eprint>(rt: &R, run: &mut Run) -> io::Result<()> {
+    run.take_file::<K>(rt.alloc(), file, text.as_str())?;
     let report = run.report.as_str();
     eprint!(rt; "{report}")?;
     run.report.clear();
     Ok(())
-}
-
-// Runs the cases of the files that the words after the program's name name, in their order.
-fn run_named<K: Kinds, R: AllocGlobal + Env + Eprint + Files>(
-    rt: &R,
-    run: &mut Run,
-) -> io::Result<()> {
-    for file in env::args(rt)?.skip(1) {
-        run_file::<K, R>(rt, run, file.as_str())?;
-        tell(rt, run)?;
-    }
-    Ok(())
-}
-
-// How many cases of these files passed, and how many failed.
-fn counts_of<K: Kinds, R: AllocGlobal + Env + Eprint + Files>(rt: &R) -> io::Result<(u32, u32)> {
-    let mut run = Run::new(rt.alloc());
-    run_named::<K, R>(rt, &mut run).map(|()| (run.passed, run.failed))
 }
 
 /// Runs the cases of the files that the words after the program's name name, in their order. It tells of each that
@@ -142,7 +124,11 @@ fn counts_of<K: Kinds, R: AllocGlobal + Env + Eprint + Files>(rt: &R) -> io::Res
 pub fn run_files<K: Kinds, R: AllocGlobal + Env + Eprint + Files + Print>(
     rt: &R,
 ) -> io::Result<bool> {
-    let (passed, failed) = counts_of::<K, R>(rt)?;
+    let mut run = Run::new(rt.alloc());
+    for file in env::args(rt)?.skip(1) {
+        run_file::<K, R>(rt, &mut run, file.as_str())?;
+    }
+    let (passed, failed) = (run.passed, run.failed);
     println!(rt; "{passed} passed, {failed} failed")?;
     Ok(failed == 0 && passed > 0)
 }

@@ -126,6 +126,13 @@ impl Suite {
         self.closed
     }
 
+    // Begins a case, or a text.
+    fn begin(&mut self, alloc: Global, kind: &str, name: &str) -> Result<(), Fault> {
+        self.case = Some(Case::new(alloc, kind, name)?);
+        self.closed = false;
+        Ok(())
+    }
+
     // Keeps what a text says, of a name that no other has.
     fn keep(&mut self, alloc: Global, text: &mut Case) -> Result<(), Fault> {
         if text_named(&self.texts, text.name.as_str()).is_some() {
@@ -136,53 +143,26 @@ impl Suite {
         self.texts.push(Text { name, octets }).map_err(Fault::from)
     }
 
-    // Takes a case that ended: counts it, or keeps its text. Answers whether it makes a call.
-    fn finish(&mut self, alloc: Global, case: &mut Case) -> Result<bool, Fault> {
-        let calls = case.kind.as_str() != "text";
-        if calls {
-            self.ended = self.ended.saturating_add(1);
-        }
-        mend(alloc, case)?;
-        if !calls {
-            self.keep(alloc, case)?;
-        }
-        Ok(calls)
-    }
-
-    // Ends the case that has begun, if one has: keeps a text, and gives any other.
+    // Ends the case that has begun: keeps a text, and counts and gives any other.
     fn end_case(&mut self, alloc: Global) -> Result<Option<Case>, Fault> {
         let Some(mut case) = self.case.take() else {
             return Ok(None);
         };
-        match self.finish(alloc, &mut case) {
-            Ok(true) => Ok(Some(case)),
-            Ok(false) => Ok(None),
-            Err(fault) => Err(fault),
+        let is_text = case.kind.as_str() == "text";
+        if !is_text {
+            self.ended = self.ended.saturating_add(1);
         }
-    }
-
-    // Begins a case, or a text, and ends the one before it.
-    fn begin(&mut self, alloc: Global, kind: &str, name: &str) -> Result<Option<Case>, Fault> {
-        let case = Case::new(alloc, kind, name)?;
-        let ended = self.end_case(alloc);
-        self.case = Some(case);
-        self.closed = false;
-        ended
+        mend(alloc, &mut case)?;
+        if is_text {
+            self.keep(alloc, &mut case)?;
+            return Ok(None);
+        }
+        Ok(Some(case))
     }
 
     // Takes the closing count: the file is at its end where so many cases have ended.
-    fn close(&mut self, alloc: Global, count: &str) -> Result<Option<Case>, Fault> {
-        let ended = self.end_case(alloc);
+    fn close(&mut self, count: &str) {
         self.closed = count.parse::<u32>().ok() == Some(self.ended);
-        ended
-    }
-
-    // Takes a line of the case that has begun. Answers whether it is one.
-    fn take_part(&mut self, alloc: Global, head: &str, rest: &str) -> Result<bool, Fault> {
-        match &mut self.case {
-            Some(case) => take_part(alloc, case, &self.texts, head, rest),
-            None => Ok(false),
-        }
     }
 
     /// Takes a line of a file. It gives the case that ends with it. A word that begins no line of a case begins a case; a
@@ -192,13 +172,17 @@ impl Suite {
             return Ok(None);
         }
         let (head, rest) = line.split_once(' ').unwrap_or((line, ""));
-        if self.take_part(alloc, head, rest)? {
+        if let Some(case) = &mut self.case
+            && take_part(alloc, case, &self.texts, head, rest)?
+        {
             return Ok(None);
         }
+        let ended = self.end_case(alloc);
         if head == "end" {
-            self.close(alloc, rest)
+            self.close(rest);
         } else {
-            self.begin(alloc, head, rest)
+            self.begin(alloc, head, rest)?;
         }
+        ended
     }
 }

@@ -5,7 +5,6 @@ mod lookback;
 
 use lookback::Call::{self, Clear, FollowUp, ReqOut, ReqSent, Resp, Sample, Start, Sync};
 use lookback::{four, keeps};
-use std::process::Abort;
 use std::test::Fail;
 use wrp_base::Stamp;
 use wrp_exch::Exchange;
@@ -88,21 +87,16 @@ fn stamp(value: i64, sample: u32) -> Stamp
     }
 }
 
-// After each call of a list the exchange is as the definition says.
-fn agrees(rt: &impl Abort, exchange: &mut Exchange, calls: &[Call]) {
-    for at in 0..calls.len() {
-        let call = calls[at];
-        let kept = make(exchange, call);
-        assert_eq!(rt; kept, keeps(RING, &calls[..at], call), "call {at}");
-        assert_eq!(rt; exchange.four(), four(RING, &calls[..at + 1]), "call {at}");
-    }
-}
-
 #[test]
 fn agrees_with_looking_back(rt: HostRuntime) -> Result<(), Fail> {
     for calls in LISTS {
         let mut exchange = Exchange::new(rt.alloc(), RING)?;
-        agrees(&rt, &mut exchange, calls);
+        for at in 0..calls.len() {
+            let call = calls[at];
+            let kept = make(&mut exchange, call);
+            assert_eq!(rt; kept, keeps(RING, &calls[..at], call), "call {at}");
+            assert_eq!(rt; exchange.four(), four(RING, &calls[..at + 1]), "call {at}");
+        }
     }
     Ok(())
 }

@@ -7,7 +7,6 @@ use std::io;
 use std::io::Read;
 use std::net::{Ipv4Addr, Net, SocketAddrV4, TcpListener, TcpStream, UdpSocket};
 use std::os::fd::OwnedFd;
-use std::process::Abort;
 use std::test::Fail;
 use system::{Given, NoNet};
 use wrp_base::Frame;
@@ -21,8 +20,8 @@ const FRAME: [u8; 56] = [
     0x08, 0x00, 0x30, 0xde, 0xad, 0x01, 0x10, 0x00,
 ];
 
-/// An address of this machine, at a port that the system chooses.
-pub fn local() -> SocketAddrV4 {
+// An address of this machine, at a port that the system chooses.
+fn local() -> SocketAddrV4 {
     SocketAddrV4::new(Ipv4Addr::LOCALHOST, 0)
 }
 
@@ -40,8 +39,8 @@ fn received<L: Link>(link: &mut L, end: u32) -> Result<Frame, Fail> {
     Err(Fail::from("nothing came"))
 }
 
-/// Whether nothing waits at an end, and then the frame comes that is sent from the other end.
-pub fn carries<L: Link>(link: &mut L, from: u32, to: u32) -> Result<bool, Fail> {
+// Whether nothing waits at an end, and then the frame comes that is sent from the other end.
+fn carries<L: Link>(link: &mut L, from: u32, to: u32) -> Result<bool, Fail> {
     if link.recv(to, &mut Frame::new()).ok().ok_or("recv")? {
         return Ok(false);
     }
@@ -49,32 +48,18 @@ pub fn carries<L: Link>(link: &mut L, from: u32, to: u32) -> Result<bool, Fail> 
     Ok(received(link, to)?.as_slice() == FRAME.as_slice())
 }
 
-/// Starts a link of so many ends. As all that is done with a link it is no part of a test, in which the link and the sockets
-/// would be dropped wherever a call may fail: a proof has these paths one by one.
-pub fn start<L: Link>(link: &mut L, ends: u32) -> Result<(), Fail> {
-    match link.start(ends) {
-        Ok(()) => Ok(()),
-        Err(_) => Err(Fail::from("start")),
-    }
-}
-
-// A link of three ends carries from each end to its other end, which for the third is a fourth, and a link of none has none.
-fn has_other_ends<L: Link>(rt: &impl Abort, link: &mut L) -> Result<(), Fail> {
-    start(link, 3)?;
-    for (from, to) in [(0, 1), (1, 0), (2, 3), (3, 2)] {
-        assert!(rt; carries(link, from, to)?);
-    }
-    assert!(rt; link.send(4, &FRAME).is_err());
-    start(link, 0)?;
-    assert!(rt; link.send(0, &FRAME).is_err());
-    assert!(rt; link.recv(0, &mut Frame::new()).is_err());
-    Ok(())
-}
-
 #[test]
 fn odd_end_has_its_other_end(rt: HostRuntime) -> Result<(), Fail> {
     let mut link = UdpLink::new(&rt, rt.alloc());
-    has_other_ends(&rt, &mut link)
+    link.start(3).ok().ok_or("start")?;
+    for (from, to) in [(0, 1), (1, 0), (2, 3), (3, 2)] {
+        assert!(rt; carries(&mut link, from, to)?);
+    }
+    assert!(rt; link.send(4, &FRAME).is_err());
+    link.start(0).ok().ok_or("start")?;
+    assert!(rt; link.send(0, &FRAME).is_err());
+    assert!(rt; link.recv(0, &mut Frame::new()).is_err());
+    Ok(())
 }
 
 // Whether a start over a system without sockets is a fault, and not want of memory.
@@ -128,83 +113,39 @@ fn send_fails<L: Link>(link: &mut L, end: u32) -> bool {
     false
 }
 
-// A socket that hears itself alone.
-fn deaf_socket<R: Net>(rt: &R) -> io::Result<UdpSocket> {
-    let deaf = UdpSocket::bind(rt, local())?;
-    deaf.connect(deaf.local_addr()?)?;
-    Ok(deaf)
-}
-
 // The lower end's socket is connected to one that hears itself alone: the system refuses what is sent there, and says so at
 // the next call of the lower end's socket.
-fn has_faults<L: Link>(
-    rt: &impl Abort,
-    link: &mut L,
-    lower: &UdpSocket,
-    deaf: &UdpSocket,
-) -> Result<(), Fail> {
-    start(link, 2)?;
-    assert!(rt; carries(link, 0, 1)?);
-    lower.connect(deaf.local_addr()?)?;
-    assert!(rt; link.send(1, &FRAME).is_ok(), "the first send");
-    assert!(rt; recv_fails(link, 1), "recv");
-    assert_eq!(rt; link.recv(1, &mut Frame::new()).ok(), Some(false));
-    assert!(rt; send_fails(link, 1), "send");
-    Ok(())
-}
-
 #[test]
 fn refused_datagrams_are_faults(rt: HostRuntime) -> Result<(), Fail> {
-    let deaf = deaf_socket(&rt)?;
+    let deaf = UdpSocket::bind(&rt, local())?;
+    deaf.connect(deaf.local_addr()?)?;
     let system = given(&rt)?;
     let mut link = UdpLink::new(&system, rt.alloc());
-    has_faults(&rt, &mut link, &system.lower, &deaf)
-}
-
-// A stranger sends octets to a socket.
-fn disturbs(stranger: &UdpSocket, socket: &UdpSocket, octet: u8) -> io::Result<()> {
-    stranger.send_to(&[octet; 56], socket.local_addr()?)?;
-    Ok(())
-}
-
-// What a stranger sends waits at a socket.
-fn waits(stranger: &UdpSocket, socket: &UdpSocket) -> io::Result<()> {
-    disturbs(stranger, socket, 1)?;
-    socket.peek(&mut [0; 1])?;
+    link.start(2).ok().ok_or("start")?;
+    assert!(rt; carries(&mut link, 0, 1)?);
+    system.lower.connect(deaf.local_addr()?)?;
+    link.send(1, &FRAME).ok().ok_or("send")?;
+    assert!(rt; recv_fails(&mut link, 1), "recv");
+    assert_eq!(rt; link.recv(1, &mut Frame::new()).ok(), Some(false));
+    assert!(rt; send_fails(&mut link, 1), "send");
     Ok(())
 }
 
 // A stranger sends before the ends are connected, and afterwards.
-fn hears_no_stranger<L: Link>(
-    rt: &impl Abort,
-    link: &mut L,
-    system: &Given,
-    stranger: &UdpSocket,
-) -> Result<(), Fail> {
-    waits(stranger, &system.upper)?;
-    waits(stranger, &system.lower)?;
-    start(link, 2)?;
-    disturbs(stranger, &system.upper, 2)?;
-    assert!(rt; carries(link, 1, 0)?, "end 0");
-    disturbs(stranger, &system.lower, 2)?;
-    assert!(rt; carries(link, 0, 1)?, "end 1");
-    Ok(())
-}
-
 #[test]
 fn strangers_are_not_heard(rt: HostRuntime) -> Result<(), Fail> {
     let stranger = UdpSocket::bind(&rt, local())?;
     let system = given(&rt)?;
+    for end in [&system.upper, &system.lower] {
+        stranger.send_to(&[1; 56], end.local_addr()?)?;
+        end.peek(&mut [0; 1])?;
+    }
     let mut link = UdpLink::new(&system, rt.alloc());
-    hears_no_stranger(&rt, &mut link, &system, &stranger)
-}
-
-// Of 300 octets that the upper end's socket sends, the first 256 come.
-fn cuts<L: Link>(rt: &impl Abort, link: &mut L, upper: &UdpSocket) -> Result<(), Fail> {
-    start(link, 2)?;
-    upper.send(&[7; 300])?;
-    assert_eq!(rt; received(link, 1)?.as_slice(), [7; 256].as_slice());
-    assert!(rt; carries(link, 0, 1)?);
+    link.start(2).ok().ok_or("start")?;
+    for (end, from, to) in [(&system.upper, 1, 0), (&system.lower, 0, 1)] {
+        stranger.send_to(&[2; 56], end.local_addr()?)?;
+        assert!(rt; carries(&mut link, from, to)?, "end {to}");
+    }
     Ok(())
 }
 
@@ -212,7 +153,11 @@ fn cuts<L: Link>(rt: &impl Abort, link: &mut L, upper: &UdpSocket) -> Result<(),
 fn long_datagrams_are_cut(rt: HostRuntime) -> Result<(), Fail> {
     let system = given(&rt)?;
     let mut link = UdpLink::new(&system, rt.alloc());
-    cuts(&rt, &mut link, &system.upper)
+    link.start(2).ok().ok_or("start")?;
+    system.upper.send(&[7; 300])?;
+    assert_eq!(rt; received(&mut link, 1)?.as_slice(), [7; 256].as_slice());
+    assert!(rt; carries(&mut link, 0, 1)?);
+    Ok(())
 }
 
 // A stream between two sockets of this machine.

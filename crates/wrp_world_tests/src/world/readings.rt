@@ -1,6 +1,6 @@
 //! What a node is told of true readings: stamps, tags, counters and beat bits, as they truly are, or at an
 //! end of what they may be.
-use crate::keys::{E_TAG, E_TX};
+use super::networks::{E_TAG, E_TX};
 use wrp_base::{Raw, Tau};
 
 // The period of the clocks, and a step of the phase detector, in tau.

@@ -26,17 +26,6 @@ pub struct Ended {
     pub text: String,
 }
 
-// What a run answers. It stands alone, since the contract of `run` is long: what calls it is proved beside all of it.
-fn status_of<N: Link>(
-    alloc: Global,
-    words: &[&str],
-    source: &mut MemSource,
-    sink: &mut MemSink,
-    link: &mut N,
-) -> Status {
-    run(alloc, words, source, sink, link)
-}
-
 // A run of these words over three nodes in a row, records and a link.
 fn ran<N: Link>(
     alloc: Global,
@@ -47,7 +36,7 @@ fn ran<N: Link>(
     let input = format!(in alloc; "{THREE_NODES}---\n{records}")?;
     let mut source = MemSource::new(input.into_bytes(), Vec::new(alloc));
     let mut sink = MemSink::new(alloc, ROOM, Vec::new(alloc))?;
-    let status = status_of(alloc, words, &mut source, &mut sink, link);
+    let status = run(alloc, words, &mut source, &mut sink, link);
     let text = str::from_utf8(sink.octets())
         .unwrap_or("")
         .to_string(alloc)?;
@@ -59,8 +48,8 @@ pub fn looped<N: Link>(alloc: Global, link: &mut N) -> Result<Ended, AllocError>
     ran(alloc, &["loop", "--seed", "1"], SCENARIO, link)
 }
 
-// The events that a loop wrote.
-fn events_of(alloc: Global, text: &str) -> Result<String, AllocError> {
+/// The audit of the events that a loop wrote.
+pub fn audited(alloc: Global, text: &str) -> Result<Ended, AllocError> {
     let mut events = String::new(alloc);
     for line in text.lines() {
         if let Some(event) = line.strip_prefix("= ") {
@@ -68,12 +57,6 @@ fn events_of(alloc: Global, text: &str) -> Result<String, AllocError> {
             events.push('\n')?;
         }
     }
-    Ok(events)
-}
-
-/// The audit of the events that a loop wrote.
-pub fn audited(alloc: Global, text: &str) -> Result<Ended, AllocError> {
-    let events = events_of(alloc, text)?;
     let mut link = MemLink::new(alloc, 0, Vec::new(alloc))?;
     ran(alloc, &["audit"], events.as_str(), &mut link)
 }

@@ -1,9 +1,9 @@
 //! The plan of a run: how it begins, how long it goes on, what goes wrong in it, and how near the slaves have
 //! to be to the grandmaster.
-use crate::course::{Course, Ends};
-use crate::handshake::Handshake;
-use crate::keys::{DOWN, ERROR, MS, SM};
-use crate::seen::{NodeSeen, Seen};
+use super::course::{Course, Ends};
+use super::handshake::Handshake;
+use super::networks::{DOWN, ERROR, MS, SM};
+use super::seen::{NodeSeen, Seen};
 use arrayvec::ArrayVec;
 use wrp_base::{ServoState, Tau};
 use wrp_network::Name;

@@ -1,10 +1,10 @@
 //! What happens next in a world of three nodes: what goes on where all goes well, told from what is seen of
 //! the world alone. Stamps and beat bits are those of the true readings, or lie at an end of what they may
 //! be.
-use crate::dice::Dice;
-use crate::keys::{BIAS, DOWN, HELD, SLEW};
-use crate::readings::{At, moved_in, raw_of, sample_of, stamp_of};
-use crate::seen::{ENDS, NodeSeen, Seen};
+use super::dice::Dice;
+use super::networks::{BIAS, DOWN, HELD, SLEW};
+use super::readings::{At, moved_in, raw_of, sample_of, stamp_of};
+use super::seen::{ENDS, NodeSeen, Seen};
 use arrayvec::ArrayVec;
 use wrp_base::{ServoState, Tau};
 use wrp_world::Event;

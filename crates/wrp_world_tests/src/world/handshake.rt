@@ -1,6 +1,6 @@
 //! A handshake of gm and sw1: which words both ports have in turn, and what goes wrong in it.
-use crate::course::Course;
-use crate::seen::Seen;
+use super::course::Course;
+use super::seen::Seen;
 use wrp_base::{LinkState, LinkWord};
 use wrp_world::Event;
 

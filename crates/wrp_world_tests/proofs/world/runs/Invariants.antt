@@ -1,7 +1,7 @@
 -- The world stays valid, and its events are counted.
 use Rattle.std.proofs.Common.{◌≤◌}
 use Rattle.wrp_world.specs.StandsFor.{IsValid}
-use Rattle.wrp_tests.proofs.world.runs.Given as goal
+use Rattle.wrp_world_tests.proofs.world.runs.Given as goal
 
 abbrev pub invariant-loop-event : goal.invariant-loop-event
 invariant-loop-event g l =

@@ -1,20 +1,29 @@
 //! Worlds of three nodes, driven by what is seen of them: whatever comes, the ports in WR_LINK_ON are in the
 //! same handshake as their peers after every event; slaves come to TRACK, and are within their bounds there
 //! and in HOLDOVER. An allocation that fails (`rt try --test --fail-alloc N`) is an event that comes once more.
+mod course;
+mod dice;
+mod handshake;
 mod life;
+mod networks;
+mod plan;
+mod readings;
+mod seen;
 
 ghost use Rattle.std.specs.Prelude.{◌≡◌, ◌≤◌, ◌^◌, unsigned_abs};
 ghost use Rattle.wrp_world.specs.StandsFor.{IsValid};
 
+use course::Ends;
+use networks::{SOON_IN_TRACK, SOON_ON};
+use plan::Plan;
+use seen::{ENDS, End, Seen, see};
 use std::alloc::Global;
 use std::process::Abort;
 use std::test::Fail;
 use wrp_base::Role;
 use wrp_check::judge;
 use wrp_law::{DelayLaw, LawKind, floor_of};
-use wrp_trial::{
-    ENDS, End, Ends, KAPPA, Plan, SOON_IN_TRACK, SOON_ON, Seen, Told, Trial, see, takes, trial_of,
-};
+use wrp_trial::{KAPPA, Told, Trial, takes, trial_of};
 use wrp_world::World;
 
 // A port in WR_LINK_ON is in the same handshake as its peer, by the histories of both.

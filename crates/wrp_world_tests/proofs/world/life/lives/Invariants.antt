@@ -1,7 +1,7 @@
 -- The world stays valid, and its events are counted.
 use Rattle.std.proofs.Common.{◌≤◌}
 use Rattle.wrp_world.specs.StandsFor.{IsValid}
-use Rattle.wrp_tests.proofs.world.life.lives.Given as goal
+use Rattle.wrp_world_tests.proofs.world.life.lives.Given as goal
 
 abbrev pub invariant-loop-number : goal.invariant-loop-number
 invariant-loop-number g l =

@@ -1,7 +1,7 @@
 //! Dice that fall alike in each run, and what goes wrong by them.
 ghost use Rattle.std.specs.Prelude.{◌<◌};
 
-use crate::keys::{MS, SM};
+use super::networks::{MS, SM};
 use arrayvec::ArrayVec;
 use wrp_base::Tau;
 use wrp_world::Event;
