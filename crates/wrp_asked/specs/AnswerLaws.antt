@@ -8,7 +8,7 @@ use Rattle.wrp_asked.specs.EmitHeadline.{HasPlainUsage}
 use Rattle.wrp_asked.specs.Ends.{Ends, Run, Wrote}
 use Rattle.wrp_asked.specs.PrintedTracks.{ReportsOffsets, TracksAreWithinBounds}
 
--- for what is asked, an input and the calls of a link one status and one text are due
+-- for a command, an input and the calls of a link at most one status and one output are expected
 abbrev pub OneAnswer : Type 0
 OneAnswer =
     (asked : CommandLine) (input : List ℕ) (calls : List LinkCall) (one other : Status) (octets others : List ℕ) →

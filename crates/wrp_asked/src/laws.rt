@@ -18,7 +18,7 @@ use wrp_sim::simulator_keeps_the_bounds;
 use wrp_trace::events_can_come;
 use wrp_world::events_hold;
 
-/// For what is asked, an input and the calls of a link one status and one text are due.
+/// For a command, an input and the calls of a link at most one status and one output are expected.
 pub fn one_answer()
     ensures { OneAnswer }
 {

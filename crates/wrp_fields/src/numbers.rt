@@ -1,11 +1,14 @@
 //! Numbers in a line.
-ghost use Rattle.std.specs.Prelude.{◌≡◌, ◌-◌, ◌^◌, ◌<◌, ◌≤◌, ◌≤ℤ◌, min, IfSome, SomeIff, option_map, option_and_then, Some, pos, neg_ℤ, unsigned_abs};
+ghost use Rattle.std.specs.Prelude.{◌≡◌, ◌-◌, ◌^◌, ◌<◌, ◌≤◌, ◌≤ℤ◌, length, min, IfSome, SomeIff, option_map, option_and_then, Some, pos, neg_ℤ, unsigned_abs};
 ghost use Rattle.std.specs.List.{list_all};
 ghost use Rattle.std.specs.Char.{is_ascii_digit};
 ghost use Rattle.wrp_fields.specs.Numbers.{value_of, are_digits, digits_of, number_in, natural_in, unsigned_in, kept_in, held_in};
 
 // The most digits that a number may have.
 const MOST_DIGITS: usize = 39;
+
+// Each number of so many digits fits 64 bits.
+const FEW_DIGITS: usize = 19;
 
 // The greatest i128.
 const MOST_SIZE: u128 = (1 << 127) - 1;
@@ -56,16 +59,36 @@ pub fn natural(text: &[u8], least: u64, greatest: u64) -> Option<u64>
 }
 
 /// The number from `least` to `greatest` that 1 to 39 digits write, without a sign. None where the text
-/// is none, or its number out of that range. It is worked out in 64 bits.
+/// is none, or its number is out of that range. It is worked out in 64 bits.
 pub fn unsigned(text: &[u8], least: u64, greatest: u64) -> Option<u64>
     ensures value { result ≡ unsigned_in least greatest text.now }
     ensures range { IfSome result (λ n. (least ≤ n) × (n ≤ greatest)) }
 {
-    if are_digits(text) {
+    if text.len() <= FEW_DIGITS {
+        within(few_digits(text)?, least, greatest)
+    } else if are_digits(text) {
         within(short_value(text)?, least, greatest)
     } else {
         None
     }
+}
+
+// The number of at most 19 digits, read in one pass. None where there is no digit, or an octet that is none.
+fn few_digits(digits: &[u8]) -> Option<u64>
+    requires { length digits.now ≤ 19 }
+    ensures { result ≡ digits_of digits.now }
+{
+    if digits.is_empty() {
+        return None;
+    }
+    let mut value = 0u64;
+    for digit in digits {
+        if !digit.is_ascii_digit() {
+            return None;
+        }
+        value = 10 * value + u64::from(*digit - b'0');
+    }
+    Some(value)
 }
 
 // The number, where it is from `least` to `greatest`.
@@ -97,7 +120,9 @@ fn size(digits: &[u8]) -> Option<i128>
     ensures value { result ≡ option_map (λ n. pos (min n (2 ^ 127 - 1))) (digits_of digits.now) }
     ensures range { IfSome result (λ z. unsigned_abs z < 2 ^ 127) }
 {
-    if are_digits(digits) {
+    if digits.len() <= FEW_DIGITS {
+        Some(i128::from(few_digits(digits)?))
+    } else if are_digits(digits) {
         Some(value(digits).min(MOST_SIZE) as i128)
     } else {
         None

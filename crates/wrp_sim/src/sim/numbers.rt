@@ -18,7 +18,8 @@ const PARTS_64: i64 = 1_000_000_000_000;
 /// How much one step of the DAC slows a clock, in `10^-12`.
 const DAC_RATE: i64 = 10;
 
-/// The detector's step in which a true phase lies.
+/// The detector's step in which a true phase lies, 0 to 16383: the phase in tau, taken round the period and
+/// rounded down to a whole step.
 pub fn true_step(clock: Clock, phase: Tau) -> u16
     ensures value { result ≡ beat.true_step clock phase }
     ensures most { result < steps_of_period }
@@ -27,7 +28,7 @@ pub fn true_step(clock: Clock, phase: Tau) -> u16
     (place / clock.step().unsigned_abs()) as u16
 }
 
-/// The base that lies 32 steps before a step of the detector.
+/// The base that lies 32 steps before a step of the detector, round the 16,384 steps of the period.
 pub fn base_before(step: u16) -> u16
     requires { step < steps_of_period }
     ensures { result ≡ number.base_before step }
@@ -35,7 +36,7 @@ pub fn base_before(step: u16) -> u16
     (step + (16_384 - 32)) % 16_384
 }
 
-/// So many bits 0, and the rest of 64 bits 1.
+/// The beat bits of a window whose first `zeros` steps read 0 and whose others read 1, the first step highest.
 pub fn bits_behind(zeros: u32) -> u64
     requires least { 1 ≤ zeros }
     requires most { zeros ≤ 63 }
@@ -44,7 +45,7 @@ pub fn bits_behind(zeros: u32) -> u64
     (1u64 << (64 - zeros)) - 1
 }
 
-// The greatest reading that a stamp can tell.
+// The greatest reading that a stamp can have, in tau: `2^62` periods.
 fn greatest_reading(clock: Clock) -> Tau
     ensures { result ≡ pos (2 ^ 62 * period_of clock) }
 {
@@ -54,7 +55,7 @@ fn greatest_reading(clock: Clock) -> Tau
     }
 }
 
-// The least reading that a stamp can tell.
+// The least reading that a stamp can have, in tau: two periods.
 fn least_reading(clock: Clock) -> Tau
     ensures { result ≡ pos (2 * period_of clock) }
 {
@@ -64,14 +65,14 @@ fn least_reading(clock: Clock) -> Tau
     }
 }
 
-/// Whether a stamp can tell a reading: from 2 to `2^62` periods.
+/// Whether a stamp can have a reading, in tau: from 2 to `2^62` periods.
 pub fn is_within(clock: Clock, at: Tau) -> bool
     ensures { result ≡ number.is_within clock at }
 {
     least_reading(clock) <= at && at <= greatest_reading(clock)
 }
 
-// A reading in whole 1000 tau.
+// A reading in whole 1,000 tau, rounded down.
 fn whole_thousands(at: Tau) -> Tau
     requires least { pos 0 ≤ℤ at }
     requires most { unsigned_abs at ≤ 2 ^ 92 }
@@ -81,7 +82,8 @@ fn whole_thousands(at: Tau) -> Tau
     (at.unsigned_abs() / 1_000 * 1_000) as i128
 }
 
-/// The stamp of a reading: in whole 1000 tau, and so many times 1000 tau more.
+/// The stamp of a reading, in tau: the reading rounded down to a multiple of 1,000 tau, and `more` times
+/// 1,000 tau added.
 pub fn stamp_at(at: Tau, more: i128) -> Tau
     requires least { pos 0 ≤ℤ at }
     requires most { unsigned_abs at ≤ 2 ^ 92 }
@@ -91,7 +93,8 @@ pub fn stamp_at(at: Tau, more: i128) -> Tau
     sum(whole_thousands(at), product(1_000, more))
 }
 
-/// How many times 1000 tau a stamp may be off, less one for its rounding.
+/// How many times 1,000 tau a stamp may be off: `e_tx`, in tau, in whole thousands, less one for the rounding
+/// of the stamp.
 pub fn thousands(e_tx: u64) -> u64
     requires { 1_000 ≤ e_tx }
     ensures value { result ≡ number.thousands e_tx }
@@ -100,7 +103,7 @@ pub fn thousands(e_tx: u64) -> u64
     e_tx / 1_000 - 1
 }
 
-// The whole periods of a reading.
+// A reading in whole periods, rounded down.
 fn periods(clock: Clock, at: Tau) -> u64
     requires least { pos 0 ≤ℤ at }
     requires most { unsigned_abs at < 2 ^ 63 * period_of clock }
@@ -109,7 +112,7 @@ fn periods(clock: Clock, at: Tau) -> u64
     (at.unsigned_abs() / clock.period().unsigned_abs()) as u64
 }
 
-// Half a period after a reading.
+// Half a period after a reading, in tau.
 fn half_later(clock: Clock, at: Tau) -> Tau
     requires least { pos 0 ≤ℤ at }
     requires most { unsigned_abs at ≤ 2 ^ 62 * period_of clock }
@@ -124,7 +127,8 @@ fn half_later(clock: Clock, at: Tau) -> Tau
     at + half
 }
 
-// The tag of a reading, over a module with this transition.
+// The tag of a reading, in detector steps, over a module with this transition: its place in the period,
+// rounded down to a step, and the transition added round the period.
 fn tag_at(clock: Clock, transition: u16, at: Tau) -> u16
     ensures { result ≡ number.tag_at clock transition at }
 {
@@ -145,7 +149,7 @@ pub fn raw_at(clock: Clock, transition: u16, at: Tau) -> Raw
     }
 }
 
-// How far a value of the DAC is above the bias.
+// How far a value of the DAC is above the bias, in steps of the DAC.
 fn above_bias(dac: u16, bias: i64) -> i64
     requires { unsigned_abs bias ≤ 65_535 }
     ensures value { result ≡ pos dac -ℤ bias }
@@ -154,7 +158,7 @@ fn above_bias(dac: u16, bias: i64) -> i64
     i64::from(dac) - bias
 }
 
-// How much so many steps of the DAC slow a clock.
+// How much so many steps of the DAC slow a clock, in `10^-12`.
 fn slowed_by(steps: i64) -> i64
     requires { unsigned_abs steps ≤ 200_000 }
     ensures value { result ≡ pos 10 *ℤ steps }
@@ -163,7 +167,7 @@ fn slowed_by(steps: i64) -> i64
     DAC_RATE * steps
 }
 
-// What a rate is less another one.
+// A rate less another one, in `10^-12`.
 fn less(rate: i64, by: i64) -> i64
     requires rate { unsigned_abs rate ≤ 100_000 }
     requires by { unsigned_abs by ≤ 2_000_000 }
@@ -183,7 +187,7 @@ pub fn own_rate(free: i64, dac: u16, bias: i64) -> i64
     less(free, slowed_by(above_bias(dac, bias)))
 }
 
-// A rate held within another one, either sign.
+// A rate held within another one, of either sign, in `10^-12`.
 fn hold_rate(most: i64, rate: i64) -> i64
     requires { pos 0 ≤ℤ most }
     ensures value { result ≡ held_within most rate }
@@ -192,7 +196,7 @@ fn hold_rate(most: i64, rate: i64) -> i64
     rate.min(most).max(-most)
 }
 
-/// A rate held within the one that a clock keeps, if it keeps one.
+/// A rate, in `10^-12`, held within the one that a clock keeps, if it keeps one.
 pub fn held_to(kept: Option<u64>, rate: i64) -> i64
     requires kept { IfSome kept (λ most. most ≤ 1_000_000_000) }
     requires rate { unsigned_abs rate ≤ 1_000_000_000 }
@@ -205,7 +209,7 @@ pub fn held_to(kept: Option<u64>, rate: i64) -> i64
     }
 }
 
-// How far a clock of this rate moves in a time, where their product may need more than 64 bits.
+// As `drift_at`, where the product of both may need more than 64 bits.
 fn drift_far(dt: i64, rate: i64) -> i64
     requires { unsigned_abs rate ≤ 1_000_000_000 }
     ensures { result ≡ number.drift_at dt rate }
@@ -213,7 +217,8 @@ fn drift_far(dt: i64, rate: i64) -> i64
     trunc_div(product(i128::from(dt), i128::from(rate)), PARTS) as i64
 }
 
-/// How far a clock of this rate moves in a time.
+/// How far a clock of this rate, in `10^-12`, moves in a time in tau: the product over `10^12`, in tau, rounded
+/// towards zero.
 pub fn drift_at(dt: i64, rate: i64) -> i64
     requires { unsigned_abs rate ≤ 1_000_000_000 }
     ensures { result ≡ number.drift_at dt rate }
@@ -224,14 +229,14 @@ pub fn drift_at(dt: i64, rate: i64) -> i64
     }
 }
 
-/// Whether a moment has come.
+/// Whether a moment, in tau of true time, has come.
 pub fn is_by(moment: Tau, now: Tau) -> bool
     ensures { result ≡ le_z moment now }
 {
     moment <= now
 }
 
-/// Whether a moment is now.
+/// Whether a moment, in tau of true time, is now.
 pub fn is_at(moment: Tau, now: Tau) -> bool
     ensures { result ≡ int_eq moment now }
 {
