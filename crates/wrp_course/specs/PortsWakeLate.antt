@@ -36,7 +36,7 @@ pub record LitLongAgo (s : Setting) (k : ℕ) (r : Role) (link : LinkCfg) (event
   pub stood : (newer older : List Happened) → since ≡ newer ++ older → (port_after s k r link (older ++ event ∷ before)).link.carrier ≡ true
   pub long : IsLongAgo (frame_life s.cfg) (world_after s events).time (world_after s (event ∷ before)).time
 
--- the marks of the end of a link by which its port left a stretch are older than two lives of a frame
+-- the marks of the end of a link with which its port left a stretch are older than two lives of a frame
 abbrev pub LeftLongAgo : Setting → ℕ → Role → List Happened → Type 0
 LeftLongAgo s k r events =
     AllByRecursion (λ mark. mark.to ≡ Idle → IsLongAgo (frame_life s.cfg) (world_after s events).time mark.at)

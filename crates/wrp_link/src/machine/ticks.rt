@@ -38,8 +38,8 @@ impl Link {
         }
     }
 
-    // A tick of the timer of a waiting state. Where it ends with a retry left, the state's messages
-    // are sent again and the timer is armed again; without, the handshake fails.
+    // A tick of the timer of a waiting state. If it ends with a retry left, the state's messages are
+    // sent again and the timer is armed again; if it ends without one, the handshake fails.
     fn waits(&mut self) -> Sends
         ensures state { self.new ≡ by_row self.old (timer_row self.old self.old.waiting) }
         ensures sends { result.items ≡ sent_by (timer_row self.old self.old.waiting) }
