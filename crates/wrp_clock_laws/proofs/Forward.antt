@@ -36,7 +36,7 @@ use Rattle.wrp_bound_laws.proofs.Sources.HeldCalls.{HoldLaws, OnHold, on_hold}
 use Rattle.wrp_bound_laws.proofs.Sources.Parents.{has_servo, with_servo}
 use Rattle.wrp_clock_laws.specs.Steady.{ClocksRunForward, HoldoverKeepsHeld, IsSteady, IsUpIn, MovesWithin, SteadyKeepsRate, TrackKeepsSlew}
 
--- the laws that this stands on
+-- the laws that this rests on
 pub record ClockLaws : Type 0 where
   pub locked : ChainIsLocked
   pub commands : CommandsAreHeld

@@ -29,7 +29,7 @@ use Rattle.wrp_course.proofs.RunFrames.{FramesKeep, given_frames}
 use Rattle.wrp_course.proofs.RunGiven.{IsFair, LinkCan, end_is, given_keeps}
 use Rattle.wrp_course.proofs.RunNetwork.{are_apart, two_nodes}
 
--- the laws that this stands on
+-- the laws that this rests on
 pub record Laws : Type 0 where
   pub links : StepGivesLinks
   pub signals : SignalsAreOfLink

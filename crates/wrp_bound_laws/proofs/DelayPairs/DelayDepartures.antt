@@ -1,4 +1,5 @@
--- The sending that a slave's exchange keeps in a chain is that of its newest Delay_Req, with the phase that its stamp latched.
+-- The sending that a slave's exchange keeps in a chain is the sending of its newest Delay_Req, with the phase that its
+-- stamp latched.
 use Rattle.std.proofs.Common.{◌≡◌, ◌∙◌, refl, ap, ap₂, sym, subst, ℕ, ◌+◌, ◌*◌, ◌≤◌, ◌==◌, ℤ, pos, ◌+ℤ◌, ◌-ℤ◌, ◌≤ℤ◌, Bool, true, false, if◌then◌else◌, List, [], ◌∷◌, ◌++◌, length, Option, None, Some, arith}
 use Rattle.std.proofs.lemmas.Int.{ints}
 use Rattle.std.specs.List.{AllByRecursion}
@@ -209,7 +210,7 @@ frame_at_place c h before stamp z u it (Some at) place queue =
 
 -- The sending that is kept
 
--- it is that of this Delay_Req
+-- it is the sending of this Delay_Req
 pub record Departs (c : Given) (x : Sending) (kept : Sent) : Type 0 where
   pub number : ℕ
   pub frame : FrameAt
