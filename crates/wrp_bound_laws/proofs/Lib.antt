@@ -3,7 +3,7 @@
 -- prove. The order here is the order of the laws; single files also look ahead, if a later folder says of a node, a
 -- servo or a call what they need:
 --
--- Runs and Nodes (what events make of nodes), Motion (clocks and fibres), Frames and Schedules (what is sent and handed
+-- Runs and Nodes (what events do to nodes), Motion (clocks and fibres), Frames and Schedules (what is sent and handed
 -- over), Sources (leases), Samples (chains and their constant), SyncPairs and DelayPairs (what the exchange keeps),
 -- Measurements (the four that the servo holds in TRACK), Hops (the bound, hop by hop and down the tree).
 --

@@ -78,7 +78,7 @@ pub all_true : (ts : List Members) → list_all (λ t. true) ts ≡ true
 all_true [] = refl
 all_true (t ∷ ts) = all_true ts
 
--- an array of only tables has exactly these tables
+-- a list of only tables is the list of the tables in it
 abbrev pub members_in : List Data → List Members
 members_in ds = each_table (λ t. t) ds
 

@@ -44,7 +44,7 @@ among (Some table) earlier none = nameless table earlier none
 pub repeats_none : (d : Data) (earlier : List Data) → name_of_value d ≡ None → repeats_name earlier d ≡ false
 repeats_none d earlier none = among (as_table d) earlier none
 
--- whether a table repeats a name is whether its value does
+-- what is reported of a value is reported of its table
 pub if_told : {E : Type 0} (code : Code) (earlier : List Data) (d : Data) (table : Members) (answer : Result Bool E) → as_table d ≡ Some table
     → IfOk answer (λ repeats. repeats ≡ repeats_name earlier d) → IfOk answer (λ repeats. IsTold code earlier table repeats)
 if_told code earlier d table (Ok repeats) is told =

@@ -81,7 +81,7 @@ abbrev pub line_now : NodeSetting → NodeAt → ℕ → Rest
 line_now fixed n p =
     ticked (setting_of fixed.set p) (line_at fixed.set (servo_ticked fixed n).node p) (locked_of fixed (servo_ticked fixed n).node)
 
--- an offer is sent only at a tick, if an Announce is due
+-- an offer is sent only at a tick at which an Announce is due
 abbrev pub MayOffer : NodeSetting → NodeAt → ℕ → Input → Type 0
 MayOffer fixed n p TickInput = announces_on (line_now fixed n p) ≡ true
 MayOffer fixed n p _ = ⊥
@@ -152,7 +152,7 @@ offer_in s says y w e k link x is offer put = elim (tick_or_not link.upper e) [
       (no_tick_to link.upper e other) put)
 ]
 
--- the port is open after it ticked, if its line is
+-- the port is open after the tick if and only if its line is
 pub open_now :
     Laws → (s : Setting) (says : Result PtpMsg FrameFault) (y : ℤ) (w : WorldAt) (k : ℕ) (link : LinkCfg) →
     is_open (port_at s (world_step s says y w (Tick link.upper)) k Master (end_of Master link)).link

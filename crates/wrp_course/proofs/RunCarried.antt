@@ -16,7 +16,7 @@ pub gives_append : (s : Setting) (y : ℤ) (xs ys : List Given) (v : WorldAt) �
 gives_append s y [] ys v = refl
 gives_append s y (x ∷ xs) ys v = gives_append s y xs ys (gives s y v x)
 
--- a link is that of a port among these, which are still to come
+-- a link is the link of one of these ports, which are still to come
 
 abbrev pub IsLinkOf : ℕ → Option Place → Type 0
 IsLinkOf k None = ⊥

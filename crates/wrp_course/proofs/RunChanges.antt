@@ -49,7 +49,7 @@ link_of_node s net c d n k (Some link) e h =
 other_clock : (c d : ClockState) (m n : ℕ) → (m ≡ n → ⊥) → (if m == n then c else d).up ≡ d.up
 other_clock c d m n out = ap (λ b. (if b then c else d).up) (not_equal m n out)
 
--- both ends are up if they still are after a node went down
+-- both ends were up if they still are after a node went down
 pub and_less : (a b c d : Bool) → (a ≡ true → c ≡ true) → (b ≡ true → d ≡ true) → (a && b) ≡ true → (c && d) ≡ true
 and_less true b c d f g e = ap₂ (λ x y. x && y) (f refl) (g e)
 and_less false b c d f g e = absurd (not_both false e refl)

@@ -30,7 +30,7 @@ use Rattle.wrp_port.specs.Outputs.{is_word}
 
 -- Lists
 
--- if each of some numbers gives only what holds, so do all of them
+-- if what each of some numbers gives holds, all that they give holds
 all_numbers : (P : Output → Type 0) (f : ℕ → List Output) (qs : List ℕ) → ((p : ℕ) → list_any (λ q. q == p) qs ≡ true → AllByRecursion P (f p)) → AllByRecursion P (flat_map f qs)
 all_numbers P f [] h = tt
 all_numbers P f (q ∷ qs) h =

@@ -18,7 +18,7 @@ use Rattle.wrp_course.specs.Setting.{Setting, end_of, link_of}
 abbrev pub port_after : Setting → ℕ → Role → LinkCfg → List Happened → Port
 port_after s k r link events = port_at s (world_after s events) k r (end_of r link)
 
--- an event by which the carrier of a link can come: the link is joined, or the node at one of its ends comes up
+-- an event in which the carrier of a link can come: the link is joined, or the node at one of its ends comes up
 abbrev pub MayLight : ℕ → LinkCfg → Event → Type 0
 MayLight k link (Join l ms sm) = l ≡ k
 MayLight k link (Up n off swaps) = (n ≡ link.upper) ⊎ (n ≡ link.lower)

@@ -75,7 +75,7 @@ abbrev pub rate_checks : ℤ → ℤ → Option ℕ → List Check
 rate_checks drift dt None = []
 rate_checks drift dt (Some rate) = moves_at 3 drift dt rate ∷ []
 
--- the check of a node's clock in a Pass: its drift, against the rate that the node's state asks of it
+-- the check of a node's clock in a Pass: its drift, against the rate that the node's state requires of it
 abbrev pub rate_kept : Setting → WorldAt → ℤ → List ℤ → ℕ → List Check
 rate_kept s w dt drifts n = rate_checks (drift_of drifts n) dt (rate_of s w n)
 

@@ -15,7 +15,7 @@ use Rattle.wrp_course.specs.declared.clocks.ClockState.{ClockState}
 use Rattle.wrp_course.specs.declared.fibres.FibreState.{FibreState}
 use Rattle.wrp_course.specs.Setting.{Setting, link_of, start_of, entry_at}
 
--- a frame that was put out: at which true time, and by which event; events are counted from 1
+-- a frame that was put out: at which true time, and in which event; events are counted from 1
 pub record Sending : Type 0 where
   pub message : PtpMsg
   pub at : ℤ

@@ -91,7 +91,7 @@ pub record IsEngaged (time : ℤ) (role : Role) (state : LinkState) (marks : Lis
   pub first : role ≡ Master → (t : ℤ) → BeganBy t g.latest → g.turn ≤ℤ t
   pub lasts : (t : ℤ) → LastsTo t g.latest
 
--- a mark by which a port came past PRESENT is not after a time
+-- a mark with which a port came past PRESENT is not after a time
 abbrev pub TurnedBy : Role → ℤ → Mark → Type 0
 TurnedBy role time mark = engaged role mark.from ≡ false → engaged role mark.to ≡ true → mark.at ≤ℤ time
 

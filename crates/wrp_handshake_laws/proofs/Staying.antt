@@ -205,7 +205,7 @@ unfolding OnPath
 entered_on t s ss [] h = absurd h
 entered_on t s ss (mark ∷ marks) h = elim h [ inl x ↦ inl x.is | inr x ↦ inr (entered_on t s ss marks x) ]
 
--- a master on whose path WR_LINK_ON is has entered it
+-- a master whose path contains WR_LINK_ON is in it
 on_way : (role : Role) (s : LinkState) → role ≡ Master → OnPath LinkOn (way_of role s) → s ≡ LinkOn
 unfolding OnPath
 on_way Slave s r h = cc

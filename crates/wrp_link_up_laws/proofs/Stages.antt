@@ -31,7 +31,7 @@ by_three g = by_two g + g.pace.dmax + a_wait g Master
 abbrev pub by_four : Given → ℕ
 by_four g = by_three g + g.pace.dmax + a_wait g Slave
 
--- when a port waits for CALIBRATE
+-- the state in which a port waits for CALIBRATE
 abbrev pub before_calibrate : Role → LinkState
 before_calibrate Slave = Locked
 before_calibrate Master = Calibrated

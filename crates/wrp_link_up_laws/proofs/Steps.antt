@@ -93,7 +93,7 @@ quiet_by g role l tick lit time h some soon due =
     soon_y lit time (g.rest role * g.pace.dmax) (g.quiet * g.pace.dmax)
     (quiet_soon g.pace.dmax (g.rest role * g.pace.dmax) (rest_of l) tick lit time some soon due) (mul-le-mul_right g.pace.dmax h.longer)
 
--- by when a link that is not up leaves its stage at the latest
+-- the latest time at which a link is still not up
 pub all_soon :
     (g : Given) (first : BothPorts) (older : List Change) (time lit : ℤ) (ml sl : LinkAt) (mtick stick : ℤ) (msent ssent : List Sending) (me se : ℤ) →
     BothHold g → PortUp g time lit Master ml mtick msent me → PortUp g time lit Slave sl stick ssent se → Prompt g first older time mtick stick →

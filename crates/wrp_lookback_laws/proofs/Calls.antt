@@ -1,4 +1,4 @@
--- What one call makes of the chain's first sample, of the four, of the lock detector and of the setpoint.
+-- What one call does to the chain's first sample, to the four, to the lock detector and to the setpoint.
 use Rattle.std.specs.Prelude.{◌⊎◌}
 use Rattle.std.proofs.Common.{◌≡◌, refl, ap, ℕ, ℤ, Bool, true, false, cond, Option, None, Some, inl, inr}
 use Rattle.wrp_base.specs.declared.link.Deltas.{Deltas}

@@ -86,7 +86,7 @@ counted s (h ∷ before) i =
 
 -- ---- one event
 
--- what an event makes of a frame that had departed: its way stays, and it is on the fibre unless it is taken off
+-- what an event does to a frame that had departed: its way stays, and it is on the fibre unless it is taken off
 record Flies (f : FrameAt) (taken : Bool) (o : Option FrameAt) : Type 0 where
   now : FrameAt
   is : o ≡ Some now

@@ -1,5 +1,5 @@
 -- The sync side and the delay side of an exchange: what two stamps and the phase that one of them latched give, from
--- stamps, flight and waiting alone.
+-- only the stamps, the flight and the waiting.
 use Rattle.std.proofs.Common.{◌≡◌, ℕ, ℤ, ◌+◌, ◌≤◌, ◌-ℤ◌, ◌+ℤ◌, arith}
 use Rattle.std.proofs.lemmas.Int.{ints}
 use Rattle.std.specs.Prelude.{unsigned_abs}

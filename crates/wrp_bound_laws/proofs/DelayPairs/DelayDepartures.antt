@@ -138,7 +138,7 @@ latched_at c events i u e =
 
 -- The frame of a departure
 
--- a Delay_Req that is the first to wait at the slave's port departs with this stamp, by which this phase is latched
+-- a Delay_Req that is the first to wait at the slave's port departs with this stamp, which latches this phase
 pub record Leaves (c : Given) (h : Happened) (before : List Happened) (stamp : ℤ) (z : Sending) (u : ℤ) : Type 0 where
   pub node : ℕ
   pub port : ℕ

@@ -180,7 +180,7 @@ stays_on set role l d news e =
     subst (λ (r : Role). (deltas_of r (link_after set l news) ≡ None) ⊎ (deltas_of r (link_after set l news) ≡ Some d)) (sym it.0)
     (subst (λ (z : LinkAt). StaysOn d (link_after set z news)) (sym is) (news_stays set l d news (inr now)))
 
--- What the servo was given of it is so, after every input
+-- What the servo was given of the link still holds, after every input
 
 abbrev pub KnowsDeltas : NodeSetting → NodeAt → Type 0
 KnowsDeltas fixed n = (d : Deltas) → link_told n.calls ≡ Some d → deltas_in fixed.set n ≡ Some d

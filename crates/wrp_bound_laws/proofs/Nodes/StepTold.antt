@@ -217,7 +217,7 @@ heard_by true true false takes e = absurd (not_none NotForUs e)
 heard_by true false addressed takes e = absurd (not_none Stranger e)
 heard_by false source addressed takes e = absurd (not_none Domain e)
 
--- is of its peer, and it takes messages then
+-- comes from its peer, and it takes messages then
 pub heard_of_peer : (fixed : NodeSetting) (n : NodeAt) (p : ℕ) (m : PtpMsg) → Hears fixed n p m → (is_port m.head.source (setting_of fixed.set p).ds.peer ≡ true) × (is_open (link_at fixed.set n p) ≡ true)
 heard_of_peer fixed n p m h =
     heard_by (m.head.domain == (setting_of fixed.set p).own.domain) (is_port m.head.source (setting_of fixed.set p).ds.peer) (is_addressed (setting_of fixed.set p).ds m.body) (is_open (link_at fixed.set n p)) h

@@ -20,7 +20,7 @@ use Rattle.wrp_bound_laws.proofs.Runs.LinksAbove.{above_at, above_is}
 use Rattle.wrp_bound_laws.proofs.Sources.Parents.{has_servo, has_slave, with_servo}
 use Rattle.wrp_bound_laws.proofs.Runs.Suffixes.{at_newest}
 
--- What the servo was given of the lease is so, after every event
+-- What the servo was given of the lease still holds, after every event
 
 abbrev KnowsLease : NodeSetting → NodeAt → Type 0
 KnowsLease fixed n = lease_told n.calls ≡ is_fresh_in fixed.set n

@@ -10,7 +10,7 @@ use wrp_base::LinkState::{Calibrated, Calibration, Idle, LinkOn, Locked, MLock, 
 use wrp_base::WrMsg;
 
 impl Link {
-    // What a tick does, and the messages that it sends. In S_LOCK the lock detector is asked before
+    // What a tick does, and the messages that it sends. In S_LOCK the lock detector is checked before
     // the timer.
     pub(super) fn tick(&mut self, locked: bool) -> Sends
         ensures state { self.new ≡ by_row self.old (tick_row self.old self.old.state locked) }
