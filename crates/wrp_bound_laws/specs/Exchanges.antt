@@ -25,7 +25,7 @@ exchange_at s link events = pieces_at (s.set link.lower) ((world_after s events)
 abbrev pub ring_below : Setting → LinkCfg → ℕ
 ring_below s link = (s.set link.lower).ring
 
--- the earlier events of a run after which the chain was already there that is there after all of them
+-- the earlier events of a run, after which the chain that is there after all events was there already
 pub record IsInChain {s : Setting} {events : List Happened} {k : ℕ} {link : LinkCfg} {hop : HopNumbers}
     (chain : ChainRuns s events k link hop) (since earlier : List Happened) : Type 0 where
   pub splits : events ≡ since ++ earlier

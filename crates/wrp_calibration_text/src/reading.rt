@@ -205,7 +205,7 @@ pub fn lists_of(alloc: Global, t: &Table) -> Result<Lists, AllocError>
     Ok(Lists::new(modules, fibres))
 }
 
-/// The fault of a code at a place, or out of memory if there is none for the place's text.
+/// The fault of a code at a place, or out of memory, if there is no memory for the place's text.
 pub fn fault_at(alloc: Global, code: Code, place: &Place) -> ConfFault
     ensures { IsFaultAt code place.now result }
 {

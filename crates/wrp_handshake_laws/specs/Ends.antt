@@ -1,5 +1,5 @@
 -- One link by itself: its two ports with all that they ever sent, and the ways in which it changes. What is lost, late,
--- repeated or out of order is a choice of changes; the physics behind it is this project's profile.
+-- repeated or out of order is a choice of changes; the physics on which this rests is this project's profile.
 use Rattle.std.specs.Prelude.{◌≡◌, ◌⊎◌, ℕ, ◌-◌, ◌*◌, ◌<◌, ℤ, pos, ◌+ℤ◌, ◌≤ℤ◌, if◌then◌else◌, List, [], ◌∷◌, Option, None, Some}
 use Rattle.wrp_base.specs.declared.link.LinkState.{LinkState}
 use Rattle.wrp_base.specs.declared.link.Mark.{Mark}

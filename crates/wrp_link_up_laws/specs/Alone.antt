@@ -1,5 +1,5 @@
--- What the laws require is needed: runs of which all but one requirement holds, and which are not up after the stated
--- time.
+-- What the laws require is needed: runs of which all but one requirement holds, and which are still not up after the
+-- stated time.
 use Rattle.std.specs.Prelude.{◌+◌, ◌*◌, ◌<◌, pos, true, List, [], ◌∷◌, Some}
 use Rattle.wrp_base.specs.declared.link.Role.TheVariants.{Slave}
 use Rattle.wrp_link.specs.declared.interface.LinkIn.TheVariants.{Announce}

@@ -56,14 +56,14 @@ pub fn no_sooner_in_turn()
     ensures { NoSoonerInTurn }
 {}
 
-/// The first law needs its retries: a link without them, of which all else holds that the law requires, is not up
-/// after the stated time.
+/// The first law needs its retries: a link without them, of which all else holds that the law requires, is still
+/// not up after the stated time.
 pub fn needs_retries()
     ensures { NeedsRetries }
 {}
 
 /// The second law needs its order: a link in which a CALIBRATED overtakes a CALIBRATE, and of which all else holds
-/// that the law requires, is not up after the stated time.
+/// that the law requires, is still not up after the stated time.
 pub fn needs_order()
     ensures { NeedsOrder }
 {}

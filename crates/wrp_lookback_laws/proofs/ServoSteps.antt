@@ -98,7 +98,7 @@ chain_came law x calls call h = came_by law x calls call (one_back (chain_starts
 pub track_goes : TrackSince → (x : ServoSetting) (calls : List Call) (call : Call) → is_track (run x calls).state ≡ true → leaves_track x calls call ≡ false → is_track (run x (call ∷ calls)).state ≡ true
 track_goes law x calls call h e = (law x (call ∷ calls)).1 (one_more (enters_track x) (leaves_track x) call calls ((law x calls).0 h) e)
 
--- nothing enters TRACK in TRACK
+-- nothing enters TRACK when the servo is in TRACK
 waits : (s : ServoState) → is_track s ≡ true → is_wait_stable s ≡ true → ⊥
 waits Track h e = cc
 waits WaitStable h e = cc

@@ -59,7 +59,7 @@ Ends x calls (CallLink on) = is_some on ≡ false
 Ends x calls (CallCarrier up) = up ≡ false
 Ends x calls CallReset = Unit {0}
 
--- TRACK holds before a call, and no longer after it
+-- the servo is in TRACK before a call, and no longer after it
 abbrev pub LeavesTrack : ServoSetting → List Call → Call → Type 0
 LeavesTrack x calls call = (is_track (state_at x calls) ≡ true) × (is_track (state_at x (call ∷ calls)) ≡ false)
 

@@ -56,7 +56,7 @@ abbrev pub IsNetworkFault : Members → ℕ → List ℕ → Type 0
 IsNetworkFault doc number text = (cfg : NetCfg)
     × IsTaken doc × IsNetworkOf doc cfg × (IsTreeFault cfg number text ⊎ IsClash cfg number text)
 
--- the answer for a table; any table may be answered with out of memory
+-- the answer for a table; for any table it may be out of memory
 abbrev pub IsAnswerOf : Members → Result Network ConfFault → Type 0
 IsAnswerOf doc (Ok net) =
     IsTaken doc × IsNetworkOf doc net.cfg × (net.db ≡ database_of doc) × tree.HasNoFault net.cfg

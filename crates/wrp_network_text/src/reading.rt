@@ -126,8 +126,8 @@ pub trait ReadNetwork {
     /// at `-` if the octets are no UTF-8 or no TOML, 2 UnknownKey, 3 Missing, 4 Range, 5 Twice, 7
     /// NotATree, 8 TwoSlaves, 9 TooDeep, and 10 Clash, whose place is the broken inequality with both
     /// its sides (this project's profile). Out of memory is an answer of its own, and may come in place
-    /// of any other; a text has no other second answer. Each network that is read is accepted. Nothing
-    /// is left of a file that is not read.
+    /// of any other; apart from this, a text has no second answer. Each network that is read is
+    /// accepted. Nothing is left of a file that is not read.
     fn read(alloc: Global, bytes: &[u8]) -> Result<Network, ConfFault>;
 }
 
