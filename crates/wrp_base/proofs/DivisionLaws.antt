@@ -1,5 +1,5 @@
--- A quotient rounded down is the greatest whole number that is at most the exact one, and one rounded up the least
--- that is at least it.
+-- A quotient rounded down is the greatest whole number that is at most the exact one, and a quotient rounded up is the
+-- least that is at least the exact one.
 use Rattle.std.proofs.Common.{◌≡◌, ℕ, zero, suc, ℤ, pos, negsuc, neg_ℤ, ◌+◌, ◌*◌, ◌/◌, ◌%◌, ◌<◌, ◌≤ℤ◌, ◌<ℤ◌, ◌+ℤ◌, ◌*ℤ◌, refl, arith}
 use Rattle.std.proofs.Math.Nat.{div-add-mod, mod-lt}
 use Rattle.std.proofs.lemmas.Int.{ints}

@@ -1,4 +1,4 @@
--- Small laws of what may be missing.
+-- Small laws of options.
 use Rattle.std.proofs.Common.{IfSome, None, Option, Some, refl, true, ℕ, ◌≡◌}
 use Rattle.std.proofs.lemmas.Bool.{false≢true}
 use Rattle.std.specs.Option.{is_some, option_or}

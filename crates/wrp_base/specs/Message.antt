@@ -33,14 +33,14 @@ pub record IsSound (message : PtpMsg) : Type 0 where
   pub times : HasFittingTimes message.body
   pub two_step : HasTwoStepFlag message.head.flags message.body
 
--- the body that stands in an unused place
+-- the body in an unused place
 abbrev pub empty_body : Body
 empty_body = Sync (record { seconds = 0; nanos = 0 })
 
--- the portIdentity of all ones, which stands for every port of every clock
+-- the portIdentity of all ones, which means every port of every clock
 abbrev pub every_port : PortIdentity
 every_port = record { clock = 0xffff_ffff_ffff_ffff; port = 0xffff }
 
--- whether two port identities are one
+-- whether two port identities are the same
 abbrev pub is_port : PortIdentity → PortIdentity → Bool
 is_port a b = (a.clock == b.clock) && (a.port == b.port)

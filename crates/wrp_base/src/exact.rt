@@ -59,7 +59,7 @@ fn remainder(a: Tau, period: u128) -> u128
     a.rem_euclid(period as i128).unsigned_abs()
 }
 
-/// `a * b`, where it is known to fit.
+/// `a * b`, if it is known to fit.
 pub fn product(a: i128, b: i128) -> i128
     requires a { unsigned_abs a ≤ 2 ^ 64 }
     requires b { unsigned_abs b ≤ 2 ^ 61 }
@@ -69,7 +69,7 @@ pub fn product(a: i128, b: i128) -> i128
     a * b
 }
 
-/// `a + b`, where it is known to fit.
+/// `a + b`, if it is known to fit.
 pub fn sum(a: i128, b: i128) -> i128
     requires a { unsigned_abs a ≤ 2 ^ 125 }
     requires b { unsigned_abs b ≤ 2 ^ 125 }
@@ -79,7 +79,7 @@ pub fn sum(a: i128, b: i128) -> i128
     a + b
 }
 
-/// `a - b`, where it is known to fit.
+/// `a - b`, if it is known to fit.
 pub fn difference(a: i128, b: i128) -> i128
     requires a { unsigned_abs a ≤ 2 ^ 125 }
     requires b { unsigned_abs b ≤ 2 ^ 125 }
@@ -98,7 +98,7 @@ pub fn hold(limit: i128, x: i128) -> i128
     x.min(limit).max(-limit)
 }
 
-/// The same number in 64 bits, where it is known to fit.
+/// The same number in 64 bits, if it is known to fit.
 pub fn narrow(a: i128) -> i64
     requires { FitsSigned w64 a }
     ensures { result ≡ a }

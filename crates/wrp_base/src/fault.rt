@@ -16,12 +16,12 @@ pub enum ConfFault {
         /// The key, the table or the inequality, as `node.2.slew`; `-` for Syntax.
         place: ArrayString<96>,
     },
-    /// There was no memory.
+    /// Out of memory.
     #[error("out of memory")]
     Memory(AllocError),
 }
 
-/// Why a line is no record. A field is its place from 1.
+/// Why a line is no record. A field is given by its place from 1.
 #[derive(Debug, Drop, Error)]
 pub enum TraceFault {
     /// 1: the line is malformed, or has another number of fields.
@@ -42,7 +42,7 @@ pub enum TraceFault {
         /// Which field, from 1.
         field: u32,
     },
-    /// There was no memory.
+    /// Out of memory.
     #[error("out of memory")]
     Memory(AllocError),
 }

@@ -1,6 +1,6 @@
-//! What every crate of `wrnet` uses: true and read time, PTP messages with their White Rabbit parts, the states of a link and of a
-//! servo, and exact arithmetic on tau. Names are those of IEEE 1588-2019 and of the White Rabbit Specification 2.0; the ranges are
-//! this project's profile.
+//! What every crate of `wrnet` uses: true and read time, PTP messages with their White Rabbit parts, the states of a
+//! link and of a servo, and exact arithmetic on tau. Names are those of IEEE 1588-2019 and of the White Rabbit
+//! Specification 2.0; the ranges are this project's profile.
 #![tactic(auto)]
 
 mod exact;

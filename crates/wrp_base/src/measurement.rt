@@ -1,4 +1,4 @@
-//! What the two-step exchange measures, and what becomes of a servo's chain.
+//! What the two-step exchange measures, and what happens to a servo's chain.
 use crate::Tau;
 
 /// The four stamps of one two-step exchange with the phases that go with two of them. Each time is
@@ -17,14 +17,15 @@ pub struct Four {
     pub u2: i64,
     /// The unwrapped phase at the Delay_Req's sample, in tau: strictly between `-2^60` and `2^60`.
     pub u3: i64,
-    /// The older of the ticks at which the Sync was handed over and the Delay_Req's sending was told.
+    /// The older of two ticks: the one at which the Sync was handed over, and the one at which the
+    /// Delay_Req's sending was reported.
     pub tick: u32,
 }
 
 /// What one call of the servo did to its chain of good samples (this project's profile).
 #[derive(Clone, Copy, Debug, Default, PartialEq, Eq)]
 pub enum ChainNews {
-    /// The chain stands as before, or there is still none.
+    /// The chain is as before, or there is still none.
     #[default]
     Same,
     /// A chain started at the sample of this number.

@@ -17,11 +17,11 @@ pub type Frame = ArrayVec<u8, 256>;
 pub struct PortIdentity {
     /// clockIdentity, the eight octets read as one number.
     pub clock: u64,
-    /// portNumber: 1 to 18 in this project's profile; 65,535 stands for every port.
+    /// portNumber: 1 to 18 in this project's profile; 65,535 means every port.
     pub port: u16,
 }
 
-/// The portIdentity of all ones, which stands for every port of every clock (IEEE 1588-2019).
+/// The portIdentity of all ones, which means every port of every clock (IEEE 1588-2019).
 pub const EVERY_PORT: PortIdentity = PortIdentity {
     clock: u64::MAX,
     port: u16::MAX,

@@ -1,4 +1,4 @@
--- Announces that tell of a certain time (IEEE 1588-2019; the meaning of the flag is this project's profile).
+-- Announces whose sender is certain of its time (IEEE 1588-2019; the meaning of the flag is this project's profile).
 use Rattle.std.specs.Prelude.{◌≡◌, bit_and}
 use Rattle.wrp_base.specs.declared.message.Body.{Body}
 use Rattle.wrp_base.specs.declared.message.Body.TheVariants.{Announce}

@@ -1,5 +1,5 @@
--- The tracking bound, in every run: in TRACK a node is within its path of true time, in HOLDOVER within its bound there, and
--- its estimate is near the true offset from its parent (this project's profile).
+-- The tracking bound, in every run: a node in TRACK is within its path of true time, a node in HOLDOVER is within its
+-- bound there, and its estimate is near its true offset from its parent (this project's profile).
 use Rattle.std.specs.Prelude.{◌≡◌, ◌<◌, ◌≤◌, ◌-ℤ◌, ℕ, ℤ, true, unsigned_abs, List, ◌∷◌, Some}
 use Rattle.std.specs.List.{AllByRecursion}
 use Rattle.wrp_base.specs.declared.link.ServoState.TheVariants.{Track}
@@ -29,11 +29,12 @@ pub record TrueRun (s : Setting) (events : List Happened) : Type 0 where
   pub fit : AllFit events
   pub answered : IsAnswered (IsNearAnswer s) s (world_after s events)
 
--- each node that is up is within its bound: in TRACK that of its path, and in HOLDOVER that with what it may have moved since
+-- each node that is up is within its bound: in TRACK the bound of its path, and in HOLDOVER that bound with what the
+-- node may have moved since
 abbrev pub AllAreBounded : Setting → WorldAt → Type 0
 AllAreBounded s w = (n : ℕ) → n < node_count s.cfg → (w.clock n).up ≡ true → IsBounded s.cfg (offsets_at s w) n
 
--- each node that is up is within its bound: of the path in TRACK, and of HOLDOVER in HOLDOVER
+-- each node that is up is within its bound: in TRACK the bound of its path, and in HOLDOVER the bound of HOLDOVER
 abbrev pub OffsetsKeepBounds : Type 0
 OffsetsKeepBounds =
     (s : Setting) (events : List Happened) (n : ℕ) → TrueRun s events →
@@ -48,8 +49,8 @@ EstimatesAreNear =
     est_of (node_setting_of s n) ((world_after s events).node n) ≡ Some est →
     IsWithin (estimate_error hop) est (((world_after s events).clock n).off -ℤ ((world_after s events).clock link.upper).off)
 
--- a report of TRACK by a node in an event that left this world: the node is in TRACK, within its path, and the estimate that
--- is reported near its offset from its parent
+-- a report of TRACK by a node in an event that left this world: the node is in TRACK and within its path, and the
+-- reported estimate is near its offset from its parent
 pub record IsTrueReport (s : Setting) (w : WorldAt) (n : ℕ) (est : ℤ) : Type 0 where
   pub track : state_of (node_setting_of s n) (w.node n) ≡ Track
   pub path : unsigned_abs (w.clock n).off ≤ path_of s.cfg n
@@ -59,16 +60,16 @@ pub record IsTrueReport (s : Setting) (w : WorldAt) (n : ℕ) (est : ℤ) : Type
   pub numbers : numbers_of s.cfg n ≡ Some hop
   pub estimate : IsWithin (estimate_error hop) est ((w.clock n).off -ℤ (w.clock link.upper).off)
 
--- what a node puts out is such a report, where it is a report of TRACK
+-- if an output of a node is a report of TRACK, it is such a report
 abbrev pub IsTrueOutput : Setting → WorldAt → ℕ → Output → Type 0
 IsTrueOutput s w n (output.Report (report.Track est)) = IsTrueReport s w n est
 IsTrueOutput s w n _ = Unit {0}
 
--- so is all that it puts out in a step
+-- so are all the outputs of a step
 abbrev pub IsTrueStep : Setting → WorldAt → NodeStepAt → Type 0
 IsTrueStep s w step = AllByRecursion (IsTrueOutput s w step.node) step.outs
 
--- so it is with each step in every event
+-- this holds of each step in every event
 abbrev pub TrackReportsAreTrue : Type 0
 TrackReportsAreTrue =
     (s : Setting) (h : Happened) (before : List Happened) → TrueRun s (h ∷ before) →

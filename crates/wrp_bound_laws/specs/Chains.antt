@@ -24,8 +24,8 @@ use Rattle.wrp_bound_laws.specs.Views.{moments_of}
 abbrev pub phase_in : Setting → WorldAt → ℕ → ℤ
 phase_in s w n = (servo_at (node_setting_of s n) (w.node n)).phase.u
 
--- the good sample that an event brings to a node, if it does: its number, its tag, the phase once it is unwrapped, and the
--- number of the event
+-- the good sample that an event brings to a node, if it brings one: its number, its tag, the phase once it is
+-- unwrapped, and the number of the event
 abbrev pub good_in : Setting → ℕ → Happened → List Happened → Event → Option Good
 good_in s n h before (Sample m base bits) =
     if n == m
@@ -35,7 +35,7 @@ good_in s n h before (Sample m base bits) =
     else None
 good_in s n h before _ = None
 
--- those of the newest of the older events and of each newer one, the newest first
+-- the good sample of the newest of the older events and of each newer one, the newest first
 abbrev pub goods_since : Setting → ℕ → (newer older : List Happened) → List Good
 goods_since s n [] [] = []
 goods_since s n [] (h ∷ before) = option_to_list (good_in s n h before h.event)
@@ -43,9 +43,9 @@ goods_since s n (h ∷ newer) older = option_to_list (good_in s n h (newer ++ ol
 
 -- A chain
 
--- a chain of the servo below a link, which an event started that is the newest of the older ones: its parent could be
--- followed then; since that the limits of its hop are kept, and since its Announce those of what moves above; at each of its
--- good samples the unwrapped phase less the true one was within the detector's error of one constant; and the last of them
+-- a chain of the servo below a link, started by the newest of the older events: its parent could be followed then;
+-- since then the limits of its hop are kept, and since its Announce the limits of what moves above; at each of its good
+-- samples the unwrapped phase less the true one was within the detector's error of one constant; and the last of them
 -- was no longer ago than the longest time between two
 pub record ChainRuns (s : Setting) (events : List Happened) (k : ℕ) (link : LinkCfg) (hop : HopNumbers) : Type 0 where
   pub newer : List Happened
@@ -64,7 +64,7 @@ pub record ChainRuns (s : Setting) (events : List Happened) (k : ℕ) (link : Li
   pub phase : phase_in s (world_after s events) link.lower ≡ newest.u
   pub recent : (world_after s events).time ≤ℤ (holds.moment.time +ℤ pos hop.gap_time)
 
--- each chain that stands has a constant
+-- each current chain has a constant
 abbrev pub AllHaveConstants : Setting → List Happened → Type 0
 AllHaveConstants s events =
     (k : ℕ) (link : LinkCfg) (hop : HopNumbers) → link_of s k ≡ Some link → numbers_of s.cfg link.lower ≡ Some hop →
@@ -75,7 +75,7 @@ abbrev pub AllFit : List Happened → Type 0
 AllFit [] = Unit {0}
 AllFit (h ∷ before) = FitsEvent h.event × AllFit before
 
--- so it is with every chain that stands
+-- this holds of every current chain
 abbrev pub ChainHasConstant : Type 0
 ChainHasConstant =
     (s : Setting) (events : List Happened) (k : ℕ) (link : LinkCfg) (hop : HopNumbers) → IsRun s events → AllFit events →

@@ -1,5 +1,5 @@
--- What the exchange of a slave keeps while a chain of its servo stands: its pairs tell the chain's constant (this
--- project's profile).
+-- What the exchange of a slave keeps while its servo has a chain: its pairs give the chain's constant (this project's
+-- profile).
 use Rattle.std.specs.Prelude.{◌≡◌, ◌≤◌, ◌+ℤ◌, ◌-ℤ◌, ℕ, List, ◌∷◌, ◌++◌, length, Some, IfSome}
 use Rattle.wrp_network.specs.declared.network.LinkCfg.{LinkCfg}
 use Rattle.wrp_base.specs.Closeness.{IsWithin}
@@ -25,13 +25,13 @@ exchange_at s link events = pieces_at (s.set link.lower) ((world_after s events)
 abbrev pub ring_below : Setting → LinkCfg → ℕ
 ring_below s link = (s.set link.lower).ring
 
--- the earlier events of a run, at which the chain that stands after all of them stood already
+-- the earlier events of a run, after which the chain that is there after all events was there already
 pub record IsInChain {s : Setting} {events : List Happened} {k : ℕ} {link : LinkCfg} {hop : HopNumbers}
     (chain : ChainRuns s events k link hop) (since earlier : List Happened) : Type 0 where
   pub splits : events ≡ since ++ earlier
   pub begun : length (chain.start ∷ chain.before) ≤ length earlier
 
--- a Sync pair that the exchange kept in the chain tells the chain's constant
+-- a Sync pair that the exchange kept in the chain gives the chain's constant
 abbrev pub SyncsTell : Type 0
 SyncsTell =
     (s : Setting) (events : List Happened) (k : ℕ) (link : LinkCfg) (hop : HopNumbers) → IsRun s events → AllFit events →
@@ -40,7 +40,7 @@ SyncsTell =
     IfSome (sync_pair (ring_below s link) (exchange_at s link earlier))
     (λ p. IsWithin (down_error hop) ((p.t1 -ℤ p.t2) +ℤ p.u2) chain.constant)
 
--- and a delay pair the constant and both ways, as they were when its Delay_Req departed in the chain
+-- a delay pair gives the constant and both ways, as they were when its Delay_Req departed in the chain
 abbrev pub DelaysTell : Type 0
 DelaysTell =
     (s : Setting) (events : List Happened) (k : ℕ) (link : LinkCfg) (hop : HopNumbers) → IsRun s events → AllFit events →

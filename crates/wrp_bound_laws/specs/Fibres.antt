@@ -17,7 +17,7 @@ pub record IsFibre (s : Setting) (k : ℕ) (link : LinkCfg) (w : WorldAt) : Type
   pub reach_up : delay_from w k Slave ≤ℤ pos (reach s.cfg)
   pub share : unsigned_abs (asymmetry link.kappa (w.fibre k).ms (w.fibre k).sm) ≤ 2 ^ 40 * link.e_asym
 
--- so it is with each joined fibre, in every run
+-- this holds of each joined fibre, in every run
 abbrev pub FibresKeepTheirShare : Type 0
 FibresKeepTheirShare =
     (s : Setting) (events : List Happened) (k : ℕ) (link : LinkCfg) → IsRun s events → link_of s k ≡ Some link →

@@ -14,15 +14,15 @@ FramesDepartInOrder =
     (s : Setting) (events : List Happened) (i j : ℕ) (f g : FrameAt) → IsRun s events →
     (world_after s events).frame i ≡ Some f → (world_after s events).frame j ≡ Some g → i < j → f.moment < g.moment
 
--- and those of one way that arrive do so in that order
+-- frames of one way that arrive do so in that order
 abbrev pub FramesArriveInOrder : Type 0
 FramesArriveInOrder =
     (s : Setting) (events : List Happened) (i j : ℕ) (f g : FrameAt) → IsRun s events →
     (world_after s events).frame i ≡ Some f → (world_after s events).frame j ≡ Some g → i < j → f.link ≡ g.link → f.by ≡ g.by →
     IfSome f.arrival (λ a. IfSome g.arrival (λ b. a.moment < b.moment))
 
--- a frame that a link's master sent, and that arrived no sooner than the last of the earlier events, departed no sooner than
--- the Announce was put out by which the lease below had last been renewed
+-- a frame that a link's master sent, and that arrived no sooner than the last of the earlier events, departed no sooner
+-- than the master put out the Announce that had last renewed the lease below
 abbrev pub FramesFollowTheSource : Type 0
 FramesFollowTheSource =
     (s : Setting) (since earlier : List Happened) (k : ℕ) (link : LinkCfg) (source : FollowsSource s earlier k link) →

@@ -1,5 +1,5 @@
--- The measurement that stands in a servo, in a run: its four tells the chain's constant, and its delay is an answer of the
--- link's law by the delays of the ports that now are in place (this project's profile).
+-- The measurement that a servo holds, in a run: its four gives the chain's constant, and its delay is an answer of the
+-- link's law by the delays of the ports now in place (this project's profile).
 use Rattle.std.specs.Prelude.{◌≡◌, ℕ, ℤ, List, ◌∷◌, length, Some}
 use Rattle.wrp_base.specs.declared.link.Deltas.{Deltas}
 use Rattle.wrp_base.specs.declared.link.ServoState.TheVariants.{Track}
@@ -17,11 +17,11 @@ use Rattle.wrp_course.specs.Setting.{Setting, node_setting_of, link_of}
 use Rattle.wrp_bound_laws.specs.Chains.{AllFit, ChainRuns}
 use Rattle.wrp_bound_laws.specs.Views.{moment_at, moments_of}
 
--- a measurement stands in the servo of a node
+-- the servo of a node holds this measurement
 abbrev pub IsKept : Setting → ℕ → List Happened → Measurement → Type 0
 IsKept s n events kept = (servo_at (node_setting_of s n) ((world_after s events).node n)).kept ≡ Some kept
 
--- the four that stands in TRACK is true of the chain, and its Delay_Req departed not too long ago
+-- the four held in TRACK is true of the chain, and its Delay_Req departed not too long ago
 abbrev pub FourHoldsInTrack : Type 0
 FourHoldsInTrack =
     (s : Setting) (h : Happened) (before : List Happened) (k : ℕ) (link : LinkCfg) (hop : HopNumbers) (kept : Measurement) →
@@ -32,17 +32,17 @@ FourHoldsInTrack =
     FourHolds hop (moment_at k link (world_after s (h ∷ before))) (moments_of s k link before) (length chain.follows.older)
     chain.constant kept.four
 
--- what the law of the link above a node answers is near the exact fraction
+-- the answer of the law of the link above a node is near the exact fraction
 abbrev pub IsNearAnswer : Setting → ℕ → ℤ → ℤ → Type 0
 IsNearAnswer s n x y = (hop : HopNumbers) → numbers_of s.cfg n ≡ Some hop → IsShare hop hop.law_err y x
 
--- a measurement's delay was reckoned by these deltas, with an answer that is near
+-- a measurement's delay was computed from these deltas, with an answer that is near
 pub record IsReckoned (hop : HopNumbers) (deltas : Deltas) (kept : Measurement) : Type 0 where
   pub answer : ℤ
   pub delay : kept.delay ≡ delay_of deltas answer
   pub near : IsAnswer hop deltas kept.four answer
 
--- so it is with the measurement that stands, by the deltas of the link as it is now
+-- this holds of the measurement that the servo holds, with the deltas of the link as it is now
 abbrev pub KeptIsReckoned : Type 0
 KeptIsReckoned =
     (s : Setting) (events : List Happened) (k : ℕ) (link : LinkCfg) (hop : HopNumbers) (kept : Measurement) →

@@ -1,4 +1,4 @@
--- HOLDOVER in a run: from where a node came to it, and what was so since (this project's profile).
+-- HOLDOVER in a run: how a node entered it, and what held since (this project's profile).
 use Rattle.std.specs.Prelude.{◌≡◌, ◌<◌, ◌≤◌, ◌+◌, ◌++◌, ℕ, unsigned_abs, List, ◌∷◌, Some}
 use Rattle.wrp_network.specs.declared.network.LinkCfg.{LinkCfg}
 use Rattle.wrp_network.specs.Network.{link_above}
@@ -10,7 +10,7 @@ use Rattle.wrp_bound_laws.specs.Holdovers.{IsHeld, LeavesTrack}
 use Rattle.wrp_bound_laws.specs.Moments.{AtEach}
 use Rattle.wrp_bound_laws.specs.Steps.{TookNoStepSince}
 
--- a node came to HOLDOVER by an event
+-- a node entered HOLDOVER in an event
 pub record CameWithinPath (s : Setting) (n : ℕ) (events : List Happened) : Type 0 where
   pub newer : List Happened
   pub entry : Happened
@@ -27,7 +27,7 @@ pub record CameWithinPath (s : Setting) (n : ℕ) (events : List Happened) : Typ
   pub ticks :
       ((world_after s events).node n).ticks < ((world_after s (entry ∷ before)).node n).ticks + unsigned_abs s.cfg.holdover
 
--- so it is with every node in HOLDOVER
+-- this holds of every node in HOLDOVER
 abbrev pub HoldoverCameWithinPath : Type 0
 HoldoverCameWithinPath =
     (s : Setting) (events : List Happened) (n : ℕ) (link : LinkCfg) → TrueRun s events → link_above s.cfg n ≡ Some link →

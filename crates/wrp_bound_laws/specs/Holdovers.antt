@@ -16,7 +16,7 @@ pub record IsHeld (s : Setting) (n : ℕ) (events : List Happened) : Type 0 wher
   pub up : ((world_after s events).clock n).up ≡ true
   pub state : state_of (node_setting_of s n) ((world_after s events).node n) ≡ Holdover
 
--- a node was brought to HOLDOVER by an event; since then it moved at most at the rate of HOLDOVER in each event, and took no
+-- a node entered HOLDOVER in an event; since then it moved in each event at most at the rate of HOLDOVER and took no
 -- step; and the time of HOLDOVER has not passed
 pub record HeldSince (s : Setting) (n : ℕ) (events : List Happened) : Type 0 where
   pub newer : List Happened
@@ -30,7 +30,7 @@ pub record HeldSince (s : Setting) (n : ℕ) (events : List Happened) : Type 0 w
       (worlds_of s events)
   pub recent : (world_after s events).time ≤ℤ ((world_after s (entry ∷ before)).time +ℤ pos (held_time s.cfg))
 
--- so it is with every node in HOLDOVER
+-- this holds of every node in HOLDOVER
 abbrev pub HoldoverIsShort : Type 0
 HoldoverIsShort =
     (s : Setting) (events : List Happened) (n : ℕ) (link : LinkCfg) → IsRun s events → link_above s.cfg n ≡ Some link →
@@ -42,7 +42,7 @@ pub record LeavesTrack (s : Setting) (h : Happened) (before : List Happened) (n 
   pub state : state_of (node_setting_of s n) ((world_after s before).node n) ≡ Track
   pub still : ((world_after s (h ∷ before)).clock n).off ≡ ((world_after s before).clock n).off
 
--- so it is where an event brings a node to HOLDOVER
+-- this holds if an event brings a node to HOLDOVER
 abbrev pub HoldoverIsFromTrack : Type 0
 HoldoverIsFromTrack =
     (s : Setting) (h : Happened) (before : List Happened) (n : ℕ) (link : LinkCfg) → IsRun s (h ∷ before) → link_above s.cfg n ≡ Some link →

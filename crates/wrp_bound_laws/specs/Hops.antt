@@ -1,6 +1,7 @@
--- What each hop keeps in every run: a node in TRACK is within its hop of its parent, which is up, and is the grandmaster, or in TRACK
--- or HOLDOVER; two nodes in TRACK below one parent are within the sum of their hops of each other; and where all nodes on the way
--- to the grandmaster are in TRACK, the offset is within the sum of their hops, with no motion of HOLDOVER (this project's profile).
+-- What each hop keeps in every run: a node in TRACK is within its hop of its parent, which is up, and is the
+-- grandmaster, or in TRACK or HOLDOVER; two nodes in TRACK below one parent are within the sum of their hops of each
+-- other; and if all nodes on the way to the grandmaster are in TRACK, the offset is within the sum of their hops, with
+-- no motion of HOLDOVER (this project's profile).
 use Rattle.std.specs.Prelude.{◌≡◌, ◌+◌, ◌≤◌, ℕ, true, unsigned_abs, List, [], ◌∷◌, None, Some}
 use Rattle.wrp_base.specs.Closeness.{IsWithin}
 use Rattle.wrp_network.specs.declared.configuration.NetCfg.{NetCfg}
@@ -26,7 +27,7 @@ pub record FollowsWithin (s : Setting) (events : List Happened) (n : ℕ) (link 
   pub up : ((world_after s events).clock link.upper).up ≡ true
   pub source : HasSource s link events
 
--- so it is with each node in TRACK
+-- this holds of each node in TRACK
 abbrev pub TracksFollow : Type 0
 TracksFollow =
     (s : Setting) (events : List Happened) (n : ℕ) (link : LinkCfg) → TrueRun s events → link_above s.cfg n ≡ Some link →

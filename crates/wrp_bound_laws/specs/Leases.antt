@@ -21,8 +21,8 @@ use Rattle.wrp_bound_laws.specs.Views.{offsets_at}
 
 -- The last renewal
 
--- a frame that is handed over renews the lease of the slave of a link: it is one of that link's master, and the port takes
--- it and renews its lease by it
+-- a frame that is handed over renews the lease of the slave of a link: it is from that link's master, and the port
+-- takes it and renews its lease with it
 abbrev pub renews_by : Setting → WorldAt → ℕ → LinkCfg → FrameAt → Option Sending
 renews_by s w k link f =
     if (f.link == k) && (is_role f.by Master
@@ -33,12 +33,12 @@ abbrev pub renewed_by : Setting → WorldAt → ℕ → LinkCfg → Option Frame
 renewed_by s w k link None = None
 renewed_by s w k link (Some f) = renews_by s w k link f
 
--- the Announce by which an event renews the lease of the slave of a link, if it does
+-- the Announce with which an event renews the lease of the slave of a link, if it does
 abbrev pub renewal_in : Setting → WorldAt → ℕ → LinkCfg → Event → Option Sending
 renewal_in s w k link (Deliver i) = renewed_by s w k link (w.frame i)
 renewal_in s w k link _ = None
 
--- and the last of these events that did
+-- the last Announce of these events that renewed it
 abbrev pub last_renewal : Setting → ℕ → LinkCfg → List Happened → Option Sending
 last_renewal s k link [] = None
 last_renewal s k link (h ∷ before) =
@@ -58,8 +58,9 @@ HasSource s link events = IsSource s.cfg (offsets_at s (world_after s events)) l
 abbrev pub IsCarried : Setting → ℕ → List Happened → Type 0
 IsCarried s k events = has_carrier s (world_after s events) k ≡ true
 
--- the Announce that renewed the lease of a link's slave last was put out not long ago by its master, certain of its time, in
--- the newest of the older events; at every event since the parent may be followed, and the link had its carrier
+-- the Announce that last renewed the lease of a link's slave was put out by its master not long ago, certain of its
+-- time, in the newest of the older events; at every event since, the parent may be followed and the link had its
+-- carrier
 pub record FollowsSource (s : Setting) (events : List Happened) (k : ℕ) (link : LinkCfg) : Type 0 where
   pub announce : Sending
   pub renewed : last_renewal s k link events ≡ Some announce
@@ -74,13 +75,13 @@ pub record FollowsSource (s : Setting) (events : List Happened) (k : ℕ) (link 
   pub carried : AtEach (IsCarried s k) newer older
   pub source : AtEach (HasSource s link) newer older
 
--- where the lease of a link's slave is fresh, its parent could be followed since the last Announce that renewed it
+-- if the lease of a link's slave is fresh, its parent could be followed since the last Announce that renewed it
 abbrev pub LeaseHasSource : Type 0
 LeaseHasSource =
     (s : Setting) (events : List Happened) (k : ℕ) (link : LinkCfg) → IsRun s events → link_of s k ≡ Some link →
     is_fresh_in (s.set link.lower) ((world_after s events).node link.lower) ≡ true → FollowsSource s events k link
 
--- and so where a chain of its servo stands
+-- so it is while its servo has a chain
 abbrev pub ChainHasSource : Type 0
 ChainHasSource =
     (s : Setting) (events : List Happened) (k : ℕ) (link : LinkCfg) → IsRun s events → link_of s k ≡ Some link →

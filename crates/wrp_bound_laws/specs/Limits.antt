@@ -12,9 +12,9 @@ use Rattle.wrp_course.specs.Run.{Happened, world_after}
 use Rattle.wrp_course.specs.Runs.{IsRun}
 use Rattle.wrp_course.specs.Setting.{Setting, node_setting_of}
 
--- a servo keeps the limits of TRACK, its node having ticked so often since its start
+-- a servo keeps the limits of TRACK, after this many ticks of its node since the start
 pub record KeepsLimits (s : Setting) (v : Core) (ticks : ℕ) : Type 0 where
-  -- the measurement that stands: at the last tick its four was at most `age` ticks old
+  -- the measurement that it holds: at the last tick its four was at most `age` ticks old
   pub kept : Measurement
   pub stands : v.kept ≡ Some kept
   pub young : ticks ≤ kept.four.tick + unsigned_abs s.cfg.age
@@ -23,7 +23,7 @@ pub record KeepsLimits (s : Setting) (v : Core) (ticks : ℕ) : Type 0 where
   -- the residual, as that sample and the last measurement left it
   pub track : pos (unsigned_abs (residual v.phase kept)) ≤ℤ s.cfg.track_tau
 
--- so does that of each node in TRACK
+-- the servo of each node in TRACK keeps them
 abbrev pub TrackKeepsLimits : Type 0
 TrackKeepsLimits =
     (s : Setting) (events : List Happened) (n : ℕ) (link : LinkCfg) → IsRun s events → link_above s.cfg n ≡ Some link →

@@ -1,6 +1,6 @@
--- What is of one and the same message, in every run: the Sync that a slave's exchange holds and its Follow_Ups; and a slave's
--- newest Delay_Req, the sending that is told of it, and its Delay_Resps (IEEE 1588-2019; how long a frame may be on its way is
--- this project's profile).
+-- Which pieces are of one and the same message, in every run: the Sync that a slave's exchange holds and its
+-- Follow_Ups; and a slave's newest Delay_Req, the sending that is reported of it, and its Delay_Resps (IEEE 1588-2019;
+-- how long a frame may be on its way is this project's profile).
 use Rattle.std.specs.Prelude.{◌≡◌, ◌≤◌, ◌+◌, ◌+ℤ◌, ◌≤ℤ◌, ℕ, pos, true, is_some, List, ◌∷◌, ◌++◌, length, Some, IfSome}
 use Rattle.wrp_base.specs.declared.link.Role.{Role}
 use Rattle.wrp_base.specs.declared.link.Role.TheVariants.{Master, Slave}
@@ -28,13 +28,14 @@ use Rattle.wrp_bound_laws.specs.SequenceIds.{IsTimed}
 
 -- Frames that can still be delivered
 
--- an end of a link put a frame out, and it is no older than a frame's life: so it is taken for one that can still be delivered at
--- the other end, whether it waits, is on the fibre, has arrived, was delivered before, or was lost meanwhile
+-- an end of a link put a frame out, and it is no older than a frame's life: so it is taken for one that can still be
+-- delivered at the other end, whether it waits, is on the fibre, has arrived, was delivered before, or was lost
+-- meanwhile
 pub record CanComeStill (s : Setting) (w : WorldAt) (k : ℕ) (r : Role) (x : Sending) : Type 0 where
   pub put : WasPutOut x (w.end_at k r).sent
   pub young : w.time ≤ℤ (x.at +ℤ pos (frame_life s.cfg))
 
--- of the frames that were put out by the end of the older events, only such ones are delivered after them
+-- of the frames that were put out by the end of the older events, only such frames are delivered after them
 abbrev pub OnlySuchComeStill : Type 0
 OnlySuchComeStill =
     (s : Setting) (h : Happened) (newer older : List Happened) (i : ℕ) (f : FrameAt) → IsRun s (h ∷ (newer ++ older)) →
@@ -52,7 +53,7 @@ pub record FrameOf (w : WorldAt) (k : ℕ) (r : Role) (x : Sending) : Type 0 whe
   pub by_is : frame.by ≡ r
   pub sending_is : frame.sending ≡ x
 
--- it was delivered in an event, after these older ones
+-- it was delivered in an event after these older ones
 pub record DeliveredAfter (events older : List Happened) {w : WorldAt} {k : ℕ} {r : Role} {x : Sending} (f : FrameOf w k r x) : Type 0 where
   pub newer : List Happened
   pub hands : Happened
@@ -63,8 +64,8 @@ pub record DeliveredAfter (events older : List Happened) {w : WorldAt} {k : ℕ}
 
 -- The pieces of a Sync
 
--- what the exchange of a slave holds of a Sync is its frame, as it was delivered: with the stamp of its reception, and the
--- sample that this latched
+-- the Sync that the exchange of a slave holds is this frame, as it was delivered: with the stamp of its reception, and
+-- the sample that the stamp latched
 pub record IsHeldOf (s : Setting) (events : List Happened) (k : ℕ) (link : LinkCfg) {x : Sending} (f : FrameOf (world_after s events) k Master x) (held : HeldSync) : Type 0 where
   pub older : List Happened
   pub delivered : DeliveredAfter events older f
@@ -75,8 +76,8 @@ pub record IsHeldOf (s : Setting) (events : List Happened) (k : ℕ) (link : Lin
       ≡ (stamp_of (node_setting_of s link.lower) ((world_after s older).node link.lower) link.lower_port delivered.arrival.raw delivered.arrival.sample).value
   pub sample : held.sample ≡ delivered.arrival.sample
 
--- a Follow_Up is the one that the master's port put out in the event in which that frame departed: it tells the stamp of that
--- departure
+-- a Follow_Up is the one that the master's port put out in the event in which that frame departed: it carries the stamp
+-- of that departure
 pub record IsFollowUpOf (s : Setting) (link : LinkCfg) {w : WorldAt} {k : ℕ} {x : Sending} (f : FrameOf w k Master x) (y : Sending) : Type 0 where
   pub samples : ℕ
   pub message :
@@ -85,7 +86,7 @@ pub record IsFollowUpOf (s : Setting) (link : LinkCfg) {w : WorldAt} {k : ℕ} {
   pub at : y.at ≡ f.frame.at
   pub moment : y.moment ≡ f.frame.moment + 1
 
--- what is held, and each Follow_Up of its sequenceId that can still be delivered, are of one Sync
+-- the held Sync, and each Follow_Up of its sequenceId that can still be delivered, are of one Sync
 pub record OfOneSync (s : Setting) (events : List Happened) (k : ℕ) (link : LinkCfg) (held : HeldSync) : Type 0 where
   pub sync : Sending
   pub is_sync : IsTimed Master sync.message.body
@@ -104,8 +105,8 @@ pub record NewestRequest (s : Setting) (events : List Happened) (k : ℕ) (x : S
   pub newest :
       (y : Sending) → WasPutOut y ((world_after s events).end_at k Slave).sent → IsTimed Slave y.message.body → y.moment ≤ x.moment
 
--- a Delay_Resp is the one that the master's port put out when a frame of this Delay_Req was delivered: it tells the stamp of
--- that one's reception
+-- a Delay_Resp is the one that the master's port put out when a frame of this Delay_Req was delivered: it carries the
+-- stamp of that reception
 pub record IsResponseTo (s : Setting) (events : List Happened) (k : ℕ) (link : LinkCfg) (x y : Sending) : Type 0 where
   pub frame : FrameOf (world_after s events) k Slave x
   pub older : List Happened
@@ -122,9 +123,9 @@ pub record IsSentOf (w : WorldAt) (k : ℕ) (x : Sending) (kept : Sent) : Type 0
   pub frame : FrameOf w k Slave x
   pub t3 : kept.t3 ≡ frame.frame.stamp
 
--- the slave's newest Delay_Req; each sending that was told with its sequenceId since it was put out, in the event in which a
--- frame departed; what the exchange keeps of the last request; and each Delay_Req and each Delay_Resp of its sequenceId that
--- can still be delivered, are of one Delay_Req
+-- the slave's newest Delay_Req; each sending with its sequenceId that was reported since it was put out, in the event
+-- in which a frame departed; what the exchange keeps of the last request; and each Delay_Req and each Delay_Resp of its
+-- sequenceId that can still be delivered, are of one Delay_Req
 pub record OfOneRequest (s : Setting) (events : List Happened) (k : ℕ) (link : LinkCfg) (x : Sending) : Type 0 where
   pub told :
       (z : Sending) (f : FrameOf (world_after s events) k Slave z) → IsTimed Slave z.message.body →
@@ -140,9 +141,9 @@ pub record OfOneRequest (s : Setting) (events : List Happened) (k : ℕ) (link :
       (y : Sending) (receive : Ts) (requesting : PortIdentity) → CanComeStill s (world_after s events) k Master y →
       y.message.body ≡ DelayResp receive requesting → y.message.head.seq ≡ x.message.head.seq → IsResponseTo s events k link x y
 
--- So it is after every event of every run
+-- This holds after every event of every run
 
--- a Sync pends in the exchange below a link, and the sample that it latched is still in the ring
+-- a Sync is pending in the exchange below a link, and the sample that it latched is still in the ring
 pub record PendsInRing (s : Setting) (events : List Happened) (link : LinkCfg) (held : HeldSync) : Type 0 where
   pub pends : pending_sync (ring_below s link) (exchange_at s link events) ≡ Some held
   pub in_ring : is_some (phase_in (last_samples (ring_below s link) (exchange_at s link events)) held.sample) ≡ true

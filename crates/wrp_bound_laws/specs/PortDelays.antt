@@ -1,5 +1,5 @@
--- The delays of the ports of a link, in a run: while the link is on, its slave reckons with those that the database has of the
--- modules in place (this project's profile).
+-- The delays of the ports of a link, in a run: while the link is on, its slave computes with the delays that the
+-- database has of the modules in place (this project's profile).
 use Rattle.std.specs.Prelude.{◌≡◌, ℕ, List, Some}
 use Rattle.wrp_base.specs.declared.link.Deltas.{Deltas}
 use Rattle.wrp_network.specs.declared.network.LinkCfg.{LinkCfg}

@@ -15,7 +15,7 @@ use Rattle.wrp_course.specs.Setting.{Setting, node_setting_of, link_of, of_node}
 use Rattle.wrp_bound_laws.specs.Leases.{IsCarried}
 use Rattle.wrp_bound_laws.specs.Views.{moment_at, offsets_at}
 
--- the grandmaster's clock tells true time
+-- the grandmaster's clock shows true time
 abbrev pub TopIsTrue : Type 0
 TopIsTrue =
     (s : Setting) (events : List Happened) (n : ℕ) → IsRun s events → link_above s.cfg n ≡ None →
@@ -26,7 +26,7 @@ abbrev pub greatest_rate : Setting → ℕ → ℕ
 greatest_rate s n =
     if is_some (link_above s.cfg n) then max (of_node (λ node. node.slew) s n) (of_node (λ node. node.held) s n) else 0
 
--- a node that may be followed, and is up, moves no faster than that in an event
+-- a node that may be followed, and is up, moves no faster than this rate in an event
 abbrev pub SourceMovesSlowly : Type 0
 SourceMovesSlowly =
     (s : Setting) (h : Happened) (before : List Happened) (n : ℕ) → IsRun s (h ∷ before) →
@@ -41,11 +41,12 @@ WaysMoveSlowly =
     MovesSlowly 2 (λ m. m.down) (moment_at k link (world_after s before)) (moment_at k link (world_after s (h ∷ before)))
     × MovesSlowly 2 (λ m. m.up) (moment_at k link (world_after s before)) (moment_at k link (world_after s (h ∷ before)))
 
--- a chain of a node's servo stands
+-- the servo of a node has a chain
 abbrev pub HasChain : Setting → ℕ → List Happened → Type 0
 HasChain s n events = is_some (servo_at (node_setting_of s n) ((world_after s events).node n)).first ≡ true
 
--- while a chain of the servo below a link stands, an event moves nothing of the link faster than the bound of its hop takes it
+-- while the servo below a link has a chain, an event moves nothing of the link faster than the bound of its hop takes
+-- it
 abbrev pub ChainPassesSlowly : Type 0
 ChainPassesSlowly =
     (s : Setting) (h : Happened) (before : List Happened) (k : ℕ) (link : LinkCfg) (hop : HopNumbers) → IsRun s (h ∷ before) →

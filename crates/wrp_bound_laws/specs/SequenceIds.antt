@@ -34,7 +34,8 @@ OneTimedAnEvent =
     WasPutOut y ((world_after s events).end_at k r).sent → IsTimed r x.message.body → IsTimed r y.message.body →
     x.moment ≡ y.moment → x ≡ y
 
--- and while its port stays open, a sequenceId of one does not come again before the time that the network's bounds allow for
+-- while its port stays open, a sequenceId of such a message does not come again before the time that the network's
+-- bounds allow for
 abbrev pub IdsComeAgainLate : Type 0
 IdsComeAgainLate =
     (s : Setting) (newer older : List Happened) (k : ℕ) (link : LinkCfg) (r : Role) (x y : Sending) → IsRun s (newer ++ older) →

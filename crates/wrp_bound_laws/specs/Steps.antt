@@ -1,4 +1,4 @@
--- Whether a node's clock took a step, in an event of a run and in those since (this project's profile).
+-- Whether a node's clock took a step, in an event of a run and in the events since (this project's profile).
 use Rattle.std.specs.Prelude.{◌≡◌, ◌++◌, ℕ, List, [], ◌∷◌}
 use Rattle.wrp_course.specs.Moved.{clock_after}
 use Rattle.wrp_course.specs.Run.{Happened, world_after}
@@ -9,11 +9,11 @@ abbrev pub TookNoStep : Setting → ℕ → (h : Happened) → (before : List Ha
 TookNoStep s n h before =
     ((world_after s (h ∷ before)).clock n).off ≡ (clock_after (world_after s before) h.event n).off
 
--- so it was in each of the newer events, which came after the older ones
+-- it took none in each of the newer events, which came after the older ones
 abbrev pub TookNoStepSince : Setting → ℕ → (newer older : List Happened) → Type 0
 TookNoStepSince s n [] older = Unit {0}
 TookNoStepSince s n (h ∷ newer) older = TookNoStep s n h (newer ++ older) × TookNoStepSince s n newer older
 
--- in an event, and in each of the newer ones, which came after it
+-- it took none in an event, and in each of the newer ones, which came after it
 abbrev pub TookNoStepFrom : Setting → ℕ → (newer : List Happened) → (h : Happened) → (before : List Happened) → Type 0
 TookNoStepFrom s n newer h before = TookNoStep s n h before × TookNoStepSince s n newer (h ∷ before)

@@ -1,4 +1,5 @@
--- Chains of a servo in a run: what was so of its node, and of the node's parent, since a chain began (this project's profile).
+-- Chains of a servo in a run: what held of its node, and of the node's parent, since a chain began (this project's
+-- profile).
 use Rattle.std.specs.Prelude.{◌≡◌, ◌≤◌, ◌≤ℤ◌, ◌+ℤ◌, ◌++◌, ℕ, ℤ, pos, true, List, [], ◌∷◌, length, Some, IfSome}
 use Rattle.wrp_base.specs.declared.link.Role.TheVariants.{Master}
 use Rattle.wrp_network.specs.declared.network.LinkCfg.{LinkCfg}
@@ -25,8 +26,8 @@ use Rattle.wrp_bound_laws.specs.Steps.{TookNoStepFrom}
 abbrev pub IsLocked : Setting → ℕ → List Happened → Type 0
 IsLocked s n events = locked_of (node_setting_of s n) ((world_after s events).node n) ≡ true
 
--- the newest of these good samples came at most `gap + 1` longest ticks before this time, and each of the others as soon
--- before the next
+-- the newest of these good samples came at most `gap + 1` longest ticks before this time, and each of the others at
+-- most as long before the next
 abbrev pub AreClose : Setting → List Happened → (time : ℤ) → List Good → Type 0
 AreClose s events time [] = Unit {0}
 AreClose s events time (good ∷ earlier) =
@@ -42,7 +43,7 @@ pub record DepartedSince (s : Setting) (events : List Happened) (k : ℕ) (link 
   pub held_is : IsHeldOf s events k link frame held
   pub since : from ≤ frame.frame.moment
 
--- so it is with the last Sync that it kept, if it kept one in the chain that stands
+-- this holds of the last Sync that it kept, if it kept one in the current chain
 abbrev pub SyncDepartedSince : Setting → (k : ℕ) → LinkCfg → (from : ℕ) → List Happened → Type 0
 SyncDepartedSince s k link from events =
     IfSome (last_sync (ring_below s link) (exchange_at s link events)) (DepartedSince s events k link from)
@@ -54,20 +55,20 @@ pub record StaysUnbroken (s : Setting) (events : List Happened) (k : ℕ) (link 
   pub before : List Happened
   pub splits : events ≡ newer ++ start ∷ before
   pub begins : HasChain s link.lower before → ⊥
-  -- it stood after that event and after each since, and the node's lock detector was locked
+  -- the chain was there after that event and after each since, and the node's lock detector was locked
   pub stands : AtEach (HasChain s link.lower) newer (start ∷ before)
   pub locked : AtEach (IsLocked s link.lower) newer (start ∷ before)
   -- in none of these events did the node or its parent take a step
   pub own : TookNoStepFrom s link.lower newer start before
   pub parent : TookNoStepFrom s link.upper newer start before
-  -- its good samples came at most `gap + 1` longest ticks apart, and the last of them as long ago
+  -- its good samples came at most `gap + 1` longest ticks apart, and the last of them at most as long ago
   pub samples : AreClose s events (world_after s events).time (goods_since s link.lower newer (start ∷ before))
-  -- each Sync that the slave's exchange kept in these events departed no sooner than the Announce was put out by which the
-  -- lease had been renewed last when the chain began
+  -- each Sync that the slave's exchange kept in these events departed no sooner than the parent put out the Announce
+  -- that had last renewed the lease when the chain began
   pub follows : FollowsSource s (start ∷ before) k link
   pub syncs : AtEach (SyncDepartedSince s k link (length follows.older)) newer (start ∷ before)
 
--- so it is with every chain that stands
+-- this holds of every current chain
 abbrev pub ChainStaysUnbroken : Type 0
 ChainStaysUnbroken =
     (s : Setting) (events : List Happened) (k : ℕ) (link : LinkCfg) → IsRun s events → AllFit events → link_of s k ≡ Some link →

@@ -29,6 +29,6 @@ moment_at k link w = record {
   up = delay_from w k Slave;
 }
 
--- and that after each event of a run, the newest first
+-- the same after each event of a run, the newest first
 abbrev pub moments_of : Setting → ℕ → LinkCfg → List Happened → List Moment
 moments_of s k link events = map (moment_at k link) (worlds_of s events)

@@ -16,8 +16,8 @@ use wrp_servo::{
 };
 use wrp_tracking_laws::chain_is_kept;
 
-/// While a chain of a node's servo stands, an event moves neither the node's clock nor its parent's nor the
-/// fibre between them faster than the bound of the hop takes it; neither node takes a step.
+/// While a node's servo has a chain, an event moves neither the node's clock nor its parent's nor the fibre
+/// between them faster than the bound of the hop takes it; neither node takes a step.
 pub fn chain_passes_slowly()
     ensures { ChainPassesSlowly }
 {

@@ -8,8 +8,8 @@ use wrp_course::{modules_stay, ticks_are_apart};
 use wrp_node::{chain_is_unbroken, commands_are_held, ticks_are_counted};
 use wrp_servo::{no_step_in_track, track_is_near};
 
-/// A node that is up ticked last, or started, no longer ago than dmax. In each event through which it is
-/// up, it either ticks, at least dmin after its last tick or start, or does not.
+/// A node that is up had its last tick, or its start, no longer ago than dmax. In each event through which
+/// it is up, it either ticks, at least dmin after its last tick or start, or does not tick.
 pub fn ticks_are_on_time()
     ensures near { TicksAreOnTime }
     ensures step { TicksStepOnTime }
@@ -18,7 +18,7 @@ pub fn ticks_are_on_time()
     ticks_are_apart();
 }
 
-/// The grandmaster's clock tells true time. A node that is up and in TRACK or HOLDOVER takes no step in an
+/// The grandmaster's clock shows true time. A node that is up and in TRACK or HOLDOVER takes no step in an
 /// event, and moves no faster than the greater of its two rates; both ways of a link with its carrier move
 /// at most at a rate of `2*10^-12`.
 pub fn clocks_move_slowly()

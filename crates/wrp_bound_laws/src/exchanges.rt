@@ -18,8 +18,8 @@ use wrp_servo::{
 use wrp_stamp::merged_within_tag;
 use wrp_tracking_laws::stamps_tell_constant;
 
-/// While a chain of the servo below a link stands, the Sync pair that the slave's exchange kept at any
-/// event of the chain tells the chain's constant: its Follow_Up told the stamp of the departure of the
+/// While the servo below a link has a chain, the Sync pair that the slave's exchange kept at any event
+/// of the chain gives the chain's constant: its Follow_Up carried the stamp of the departure of the
 /// very Sync that the exchange held, since a sequenceId does not come again so soon.
 pub fn syncs_tell()
     ensures { SyncsTell }

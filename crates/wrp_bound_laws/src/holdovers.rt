@@ -5,7 +5,7 @@ use wrp_course::ticks_are_apart;
 use wrp_node::{commands_are_held, step_settles};
 use wrp_servo::{holdover_since, no_step_in_track, track_is_near, track_since};
 
-/// A node in HOLDOVER came to it in an event; since then it moved no faster than its rate of HOLDOVER and
+/// A node in HOLDOVER entered it in an event; since then it moved no faster than its rate of HOLDOVER and
 /// took no step, and the time of HOLDOVER has not passed.
 pub fn holdover_is_short()
     ensures { HoldoverIsShort }
@@ -18,7 +18,8 @@ pub fn holdover_is_short()
     ticks_are_apart();
 }
 
-/// Before the event by which a node comes to HOLDOVER it was up, and in TRACK; and it is where it was.
+/// Before the event in which a node enters HOLDOVER it was up, and in TRACK; and the event did not move
+/// it.
 pub fn holdover_is_from_track()
     ensures { HoldoverIsFromTrack }
 {

@@ -1,6 +1,6 @@
 //! How far the nodes of a network are from true time, in every run of its world: laws over lists of
-//! events, from those of one hop and of one node. The functions do nothing; their contracts are the laws.
-//! All rules are this project's profile.
+//! events, from the laws of one hop and of one node. The functions do nothing; their contracts are the
+//! laws. All rules are this project's profile.
 #![tactic(auto)]
 
 mod bounds;

@@ -1,5 +1,5 @@
-//! What is of one and the same Sync, or Delay_Req, in a run. The function here computes nothing: its contract
-//! is the laws.
+//! Which pieces are of one and the same Sync, or Delay_Req, in a run. The function here computes nothing: its
+//! contract is the laws.
 ghost use Rattle.wrp_bound_laws.specs.OneMessage.{OnlySuchComeStill, PiecesAreOfOneMessage};
 
 use crate::chains::chain_has_constant;
@@ -20,9 +20,9 @@ use wrp_stamp::merged_within_tag;
 use wrp_tracking_laws::stamps_tell_constant;
 
 /// After every event a pending Sync whose sample is still in the ring, and every Follow_Up of its sequenceId
-/// that can still be delivered, are of one and the same Sync. A slave's newest Delay_Req, a sending told
+/// that can still be delivered, are of one and the same Sync. A slave's newest Delay_Req, a sending reported
 /// with its sequenceId, and every Delay_Resp of that sequenceId that can still be delivered are of one and
-/// the same Delay_Req. And only such frames are delivered.
+/// the same Delay_Req. Only such frames are delivered.
 pub fn pieces_are_of_one_message()
     ensures one { PiecesAreOfOneMessage }
     ensures come { OnlySuchComeStill }

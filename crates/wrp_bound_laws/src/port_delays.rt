@@ -1,11 +1,12 @@
-//! The delays by which a slave reckons. The function computes nothing: its contract is the law.
+//! The delays with which a slave computes. The function computes nothing: its contract is the law.
 ghost use Rattle.wrp_bound_laws.specs.PortDelays.{FibreHoldsWhileOn};
 
 use crate::clocks::fibres_keep_their_share;
 use wrp_course::link_on_in_the_same_handshake;
 
-/// While a link is on, each of the four delays of ports by which its slave reckons is within the database's
-/// error of the true delay of the module in place, and the fibre between the ports keeps its share.
+/// While a link is on, each of the four delays of ports with which its slave computes is within the
+/// database's error of the true delay of the module in place, and the fibre between the ports keeps its
+/// share.
 pub fn fibre_holds_while_on()
     ensures { FibreHoldsWhileOn }
 {

@@ -15,9 +15,9 @@ use wrp_servo::{chain_has_signals, chain_since, phase_is_sum};
 use wrp_stamp::merged_within_tag;
 use wrp_tracking_laws::stamps_tell_constant;
 
-/// While a chain of a slave's servo stands, the delay pair that its exchange kept at any moment of the chain
-/// is of one Delay_Req that departed in the chain: it tells the chain's constant and both ways, as they were
-/// at that departure, and its tick is the node's of then.
+/// While a slave's servo has a chain, the delay pair that its exchange kept at any moment of the chain is of
+/// one Delay_Req that departed in the chain: it gives the chain's constant and both ways, as they were at
+/// that departure, and its tick is the node's tick at that departure.
 pub fn delays_tell()
     ensures { DelaysTell }
 {

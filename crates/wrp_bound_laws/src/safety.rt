@@ -24,10 +24,10 @@ use wrp_servo::{
 use wrp_stamp::merged_within_tag;
 use wrp_tracking_laws::{stamps_tell_constant, track_is_young};
 
-/// While a chain of the servo below a link stands: after the event that started it, and after each since, the
-/// node's lock detector was locked, and in none of them did the node or its parent take a step; its good samples
-/// came at most `gap + 1` longest ticks apart; and each Sync that the slave's exchange kept departed no sooner
-/// than the Announce was put out by which the lease had been renewed last when the chain began.
+/// While the servo below a link has a chain: after the event that started it, and after each since, the node's
+/// lock detector was locked, and in none of them did the node or its parent take a step; its good samples came at
+/// most `gap + 1` longest ticks apart; and each Sync that the slave's exchange kept departed no sooner than the
+/// parent put out the Announce that had last renewed the lease when the chain began.
 pub fn chain_stays_unbroken()
     ensures { ChainStaysUnbroken }
 {
@@ -56,9 +56,9 @@ pub fn chain_stays_unbroken()
     ticks_are_apart();
 }
 
-/// In TRACK a measurement stands whose four was at most `age` ticks old at the node's last tick; the loop's error
-/// that the last good sample left is within `loop_tau`, and the residual that this sample and the last
-/// measurement left is within `track_tau`.
+/// In TRACK the servo holds a measurement whose four was at most `age` ticks old at the node's last tick; the
+/// loop's error that the last good sample left is within `loop_tau`, and the residual that this sample and the
+/// last measurement left is within `track_tau`.
 pub fn track_keeps_limits()
     ensures { TrackKeepsLimits }
 {
@@ -67,7 +67,7 @@ pub fn track_keeps_limits()
     track_is_young();
 }
 
-/// A node in HOLDOVER came to it by an event before which it was up, in TRACK, and within its path of true time,
+/// A node in HOLDOVER entered it in an event before which it was up, in TRACK, and within its path of true time,
 /// and which did not move it. Since then it took no step in any event, and it ticked fewer times than HOLDOVER
 /// lasts.
 pub fn holdover_came_within_path()

@@ -19,7 +19,7 @@ use Rattle.wrp_caldb.specs.declared.keys.Others.TheVariants.{Refused, Ignored}
 
 -- the rows
 
--- the version of the text, 1 where it is missing
+-- the version of the text, 1 if it is missing
 abbrev pub version_key : Key
 version_key = default_key (codes "version") (pos 1) (pos 2) (pos 1)
 
@@ -55,7 +55,7 @@ module_err_key = number_key (codes "err") (pos 0) (pos 1_000_000_000)
 abbrev pub module_name_key : Key
 module_name_key = required_key (codes "name") so.ModuleName
 
--- a module of version 1 has its numbers beside its name, one of version 2 a list of pairs
+-- a module of version 1 has its numbers next to its name, one of version 2 a list of pairs
 abbrev pub module_keys : Version → List Key
 module_keys One = module_name_key ∷ tx_key ∷ rx_key ∷ transition_key ∷ module_err_key ∷ []
 module_keys Two = module_name_key ∷ required_key (codes "pair") (so.Tables 1 (Some 16)) ∷ []
@@ -68,7 +68,7 @@ tx_nm_key = required_key (codes "tx_nm") so.Wavelength
 abbrev pub rx_nm_key : Option ℤ → Key
 rx_nm_key first = required_key (codes "rx_nm") (so.SecondWavelength first)
 
--- the first wavelength that stands in a pair
+-- the first wavelength of a pair
 abbrev pub first_wavelength : Members → Option ℤ
 first_wavelength pair = option_and_then as_integer (get_member (codes "tx_nm") pair)
 
@@ -86,7 +86,7 @@ kappa_key = number_key (codes "kappa") (negsuc 274_877_906_943) (pos 274_877_906
 abbrev pub fibre_err_key : Key
 fibre_err_key = number_key (codes "err") (pos 1) (pos 1_000_000_000)
 
--- how far a point may be from the law, in tau, 0 where it is missing
+-- how far a point may be from the law, in tau, 0 if it is missing
 abbrev pub table_err_key : Key
 table_err_key = default_key (codes "table_err") (pos 0) (pos 1_000_000_000) (pos 0)
 
@@ -95,7 +95,7 @@ abbrev pub linear_law : Option ℤ → Option ℤ → Option Linear
 linear_law (Some kappa) (Some err) = Some (record { kappa = kappa; err = unsigned_abs err })
 linear_law _ _ = None
 
--- the law that a fibre's points have to keep to; none where its numbers are out of their ranges
+-- the law that a fibre's points have to keep to; none if its numbers are out of their ranges
 abbrev pub law_of : Members → Option Linear
 law_of fibre = linear_law (number_in kappa_key (get_member (codes "kappa") fibre))
     (number_in table_err_key (get_member (codes "table_err") fibre))
@@ -109,12 +109,12 @@ abbrev pub linear_keys : Members → List Key → List Key
 linear_keys fibre more =
     name_key ∷ kappa_key ∷ fibre_err_key ∷ table_key (law_of fibre) ∷ more
 
--- `table_err` is a key beside `table` alone
+-- `table_err` is a key only if `table` is there
 abbrev pub fibre_keys : Members → List Key
 fibre_keys fibre =
     linear_keys fibre (if is_some (get_member (codes "table") fibre) then table_err_key ∷ [] else [])
 
--- a text is of version 2 where it says so, and else of version 1
+-- a text is of version 2 if it says so, else of version 1
 abbrev pub version_in : Option ℤ → Version
 version_in None = One
 version_in (Some z) = if int_eq z (pos 2) then Two else One
@@ -131,7 +131,7 @@ place_in_pair code n pairs m table =
     option_or (place_in_table code (tables.Pair n (m + 1)) (pair_keys table) table)
     (place_of_pair code (tables.Pair n (m + 1)) (take m pairs) table)
 
--- in the pairs of module n, which a module of version 1 has not
+-- in the pairs of module n; a module of version 1 has none
 abbrev pub place_in_pairs : Version → Code → ℕ → List Data → Option PlaceAt
 place_in_pairs One code n pairs = None
 place_in_pairs Two code n pairs =
@@ -160,7 +160,7 @@ abbrev pub place_in_fibres : Code → List Data → Option PlaceAt
 place_in_fibres code fibres =
     first_among (λ n d. on_table (place_in_fibre code fibres n) d) 0 fibres
 
--- behind the top: the key `module`, the modules, the key `fibre`, the fibres
+-- after the top: the key `module`, the modules, the key `fibre`, the fibres
 abbrev pub place_in_lists : Code → Members → Option PlaceAt
 place_in_lists code doc =
     option_or (place_of_keys code tables.Top (module_key ∷ []) doc)
@@ -168,7 +168,7 @@ place_in_lists code doc =
     (option_or (place_of_keys code tables.Top (fibre_key ∷ []) doc)
     (place_in_fibres code (tables_at (codes "fibre") doc))))
 
--- the top, where other keys than those of a calibration text are refused or ignored
+-- the top, whose other keys than those of a calibration text are refused or ignored
 abbrev pub place_in_top : Others → Code → Members → Option PlaceAt
 place_in_top Refused code doc =
     option_or (place_of_others code tables.Top top_keys doc)
@@ -183,6 +183,6 @@ first_place others doc code = option_or (place_in_top others code doc) (place_in
 abbrev pub IsRefused : Others → Members → Code → PlaceAt → Type 0
 IsRefused others doc code place = IsLeast (first_place others doc) code place
 
--- the text is taken
+-- the text is accepted
 abbrev pub IsAccepted : Others → Members → Type 0
 IsAccepted others doc = HasNone (first_place others doc)

@@ -45,7 +45,7 @@ abbrev pub entry_at : ℕ → ℕ → List Entry → Option Module
 entry_at tx rx entries =
     option_map (λ e. e.delays) (find (λ e. (e.tx_nm == tx) && (e.rx_nm == rx)) entries)
 
--- the entry of the pair, else that of 0 and 0, which means any pair
+-- the entry of the pair, else the entry of 0 and 0, which means any pair
 abbrev pub delays_at : List Entry → ℕ → ℕ → Option Module
 delays_at entries tx rx = option_or (entry_at tx rx entries) (entry_at 0 0 entries)
 
@@ -68,8 +68,7 @@ table_at db name = option_and_then (λ f. f.table) (fibre_named db name)
 
 -- what a text lists
 
--- the number at a row's key, or its default; 0 where no number of its sort stands there, for which
--- the text is refused
+-- the number at a row's key, or its default; 0 if there is no number of its kind, for which the text is refused
 abbrev pub number_at : Key → Members → ℤ
 number_at key table = unwrap_or (number_in key (get_member key.name table)) (pos 0)
 
@@ -77,16 +76,16 @@ number_at key table = unwrap_or (number_in key (get_member key.name table)) (pos
 abbrev pub natural_at : Key → Members → ℕ
 natural_at key table = unsigned_abs (number_at key table)
 
--- the text where it is a name
+-- the text if it is a name
 abbrev pub name_or_none : Option (List ℕ) → List ℕ
 name_or_none None = []
 name_or_none (Some name) = if is_name name then name else []
 
--- the name at `name`; none where no name stands there, for which the text is refused
+-- the name at `name`; none if there is no name, for which the text is refused
 abbrev pub name_at : Members → List ℕ
 name_at table = name_or_none (name_in table)
 
--- the delays that stand in a table
+-- the delays of a table
 abbrev pub delays_of : Members → Module
 delays_of table = record {
   tx = natural_at tx_key table;
@@ -116,7 +115,7 @@ entries_of Two table = each_table entry_of (tables_at (codes "pair") table)
 abbrev pub module_of : Version → Members → ModuleAt
 module_of version table = record { name = name_at table; entries = entries_of version table }
 
--- the stored points, where the fibre has `table`
+-- the stored points, if the fibre has `table`
 abbrev pub table_of : Members → Option TableAt
 table_of fibre =
     option_map (λ ps. record { points = ps; err = natural_at table_err_key fibre })
@@ -137,6 +136,6 @@ database_of doc = record {
   fibres = each_table fibre_of (tables_at (codes "fibre") doc);
 }
 
--- the database is that of an accepted document
+-- the database is the one of an accepted document
 abbrev pub IsListed : Database → Type 0
 IsListed db = (others : Others) × (doc : Members) × IsAccepted others doc × (db ≡ database_of doc)

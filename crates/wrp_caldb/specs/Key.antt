@@ -28,11 +28,11 @@ optional_key name sort = record { name = name; need = ne.Optional; sort = sort }
 abbrev pub number_key : List ℕ → ℤ → ℤ → Key
 number_key name least greatest = required_key name (so.Number least greatest)
 
--- a key of a whole number from least to greatest, with what stands for it where it is missing
+-- a key of a whole number from least to greatest, with the value used if it is missing
 abbrev pub default_key : List ℕ → ℤ → ℤ → ℤ → Key
 default_key name least greatest default =
     record { name = name; need = ne.Default default; sort = so.Number least greatest }
 
--- a key with what stands for it where it is missing
+-- a key with the value used if it is missing
 abbrev pub defaulted_key : List ℕ → Sort → ℤ → Key
 defaulted_key name sort default = record { name = name; need = ne.Default default; sort = sort }

@@ -20,7 +20,7 @@ abbrev pub is_name : List ℕ → Bool
 is_name [] = false
 is_name (c ∷ cs) = is_letter c && (list_all is_name_octet cs && nat_le (length cs) 15)
 
--- a name that a module may have: `unlisted` stands for a module of no entry
+-- a name that a module may have: `unlisted` means a module of no entry
 abbrev pub is_module_name : List ℕ → Bool
 is_module_name name = is_name name && not (same_name name (codes "unlisted"))
 

@@ -15,26 +15,26 @@ list_of (item d ds) = d ∷ list_of ds
 abbrev pub values_of : Data → Option (List Data)
 values_of d = option_map list_of (as_array d)
 
--- a point of two numbers, where both are there
+-- a point of two numbers, if both are there
 abbrev pub both : Option ℤ → Option ℤ → Option (ℤ × ℤ)
 both (Some x) (Some y) = Some (x, y)
 both _ _ = None
 
--- the point that two values say
+-- the point that two values give
 abbrev pub two_numbers : List Data → Option (ℤ × ℤ)
 two_numbers (x ∷ y ∷ []) = both (as_integer x) (as_integer y)
 two_numbers _ = None
 
--- the point that an array of two whole numbers says
+-- the point that an array of two whole numbers gives
 abbrev pub point_of : Data → Option (ℤ × ℤ)
 point_of d = option_and_then two_numbers (values_of d)
 
--- a point before others, where all are there
+-- a point before others, if all are there
 abbrev pub with_point : Option (ℤ × ℤ) → Option (List (ℤ × ℤ)) → Option (List (ℤ × ℤ))
 with_point (Some p) (Some ps) = Some (p ∷ ps)
 with_point _ _ = None
 
--- the points of a list of values, where each is one
+-- the points of a list of values, if each is one
 abbrev pub points_of : List Data → Option (List (ℤ × ℤ))
 points_of [] = Some []
 points_of (d ∷ ds) = with_point (point_of d) (points_of ds)
@@ -56,7 +56,7 @@ has_bounds p = (le_z (neg_ℤ (pos (2 ^ 30))) p.0 && le_z p.0 (pos (2 ^ 53)))
 abbrev pub is_step : ℤ × ℤ → ℤ × ℤ → Bool
 is_step p q = lt_z p.0 q.0 && le_z p.1 q.1
 
--- the same from a point through the points behind it
+-- the same from a point through the points after it
 abbrev pub rises_from : ℤ × ℤ → List (ℤ × ℤ) → Bool
 rises_from p [] = true
 rises_from p (q ∷ qs) = is_step p q && rises_from q qs
@@ -71,7 +71,7 @@ abbrev pub distance_from : Linear → ℤ × ℤ → ℕ
 distance_from law p =
     unsigned_abs (pos (2 ^ 40) *ℤ p.1 -ℤ (pos (2 ^ 39) +ℤ law.kappa) *ℤ p.0)
 
--- the point is within the law's error of it, where there is a law
+-- the point is within the law's error of it, if there is a law
 abbrev pub is_near : Option Linear → ℤ × ℤ → Bool
 is_near None p = true
 is_near (Some law) p = nat_le (distance_from law p) (2 ^ 40 * law.err)

@@ -10,7 +10,7 @@ use Rattle.wrp_caldb.specs.declared.place.At.{At}
 use Rattle.wrp_caldb.specs.declared.row.Code.{Code}
 use Rattle.wrp_caldb.specs.declared.row.Code.TheVariants as co
 
--- the place of a key of a table, where there is one
+-- the place of a key of a table, if there is one
 abbrev pub key_place : At → Option (List ℕ) → Option PlaceAt
 key_place at None = None
 key_place at (Some name) = Some (record { at = at; key = Some name })
@@ -23,7 +23,7 @@ table_place at = record { at = at; key = None }
 abbrev pub place_of_keys : Code → At → List Key → Members → Option PlaceAt
 place_of_keys code at keys table = key_place at (first_key code keys table)
 
--- the table, where it has a key that is none of these
+-- the table, if it has a key that is none of these
 abbrev pub place_of_others : Code → At → List Key → Members → Option PlaceAt
 place_of_others co.UnknownKey at keys table =
     if has_unknown keys table then Some (table_place at) else None
@@ -36,11 +36,11 @@ abbrev pub place_in_table : Code → At → List Key → Members → Option Plac
 place_in_table code at keys table =
     option_or (place_of_others code at keys table) (place_of_keys code at keys table)
 
--- what a table gives, where the value is one
+-- what a table gives, if the value is one
 abbrev pub on_table : (Members → Option PlaceAt) → Data → Option PlaceAt
 on_table f d = option_and_then f (as_table d)
 
--- the first place that one of these values gives, each with how many stand before it
+-- the first place that one of these values gives, each with how many values come before it
 abbrev pub first_among : (ℕ → Data → Option PlaceAt) → ℕ → List Data → Option PlaceAt
 first_among f n [] = None
 first_among f n (d ∷ ds) = option_or (f n d) (first_among f (n + 1) ds)
@@ -52,8 +52,8 @@ number_of co.Missing = 3
 number_of co.Range = 4
 number_of co.Twice = 5
 
--- where each code has this first place, a text is refused for this code at this place: the least
--- one that has a place, at the first such place
+-- if each code has this first place, a text is refused for this code at this place: the least one that has a place, at
+-- the first such place
 abbrev pub IsLeast : (Code → Option PlaceAt) → Code → PlaceAt → Type 0
 IsLeast first code place = (first code ≡ Some place)
     × ((lower : Code) → number_of lower < number_of code → first lower ≡ None)

@@ -1,5 +1,5 @@
--- What stands twice: a name among tables of a kind, and the wavelengths of a pair in its module (this
--- project's profile).
+-- What is there twice: a name among tables of a kind, and the wavelengths of a pair in its module (this project's
+-- profile).
 use Rattle.std.specs.Prelude.{◌&&◌, ℕ, ℤ, List, Bool, false, Option, Some, None, option_and_then, codes, if◌then◌else◌}
 use Rattle.std.specs.Ordering.{int_eq}
 use Rattle.std.specs.List.{list_any}
@@ -43,7 +43,7 @@ abbrev pub has_wavelengths_of : Members → Data → Bool
 has_wavelengths_of table d =
     has_number_of (codes "tx_nm") table d && has_number_of (codes "rx_nm") table d
 
--- a table's key `name`, where one of the earlier tables has the same name
+-- a table's key `name`, if one of the earlier tables has the same name
 abbrev pub place_of_name : Code → At → List Data → Members → Option PlaceAt
 place_of_name co.UnknownKey at earlier table = None
 place_of_name co.Missing at earlier table = None
@@ -52,7 +52,7 @@ place_of_name co.Twice at earlier table =
     if list_any (has_name_of table) earlier
     then Some (record { at = at; key = Some (codes "name") }) else None
 
--- a pair, where one of the earlier pairs has the same two wavelengths
+-- a pair, if one of the earlier pairs has the same two wavelengths
 abbrev pub place_of_pair : Code → At → List Data → Members → Option PlaceAt
 place_of_pair co.UnknownKey at earlier table = None
 place_of_pair co.Missing at earlier table = None

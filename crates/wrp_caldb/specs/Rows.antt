@@ -31,7 +31,7 @@ abbrev pub is_wavelength : Option ℤ → Bool
 is_wavelength None = false
 is_wavelength (Some z) = int_eq z (pos 0) || (le_z (pos 800) z && le_z z (pos 1700))
 
--- this wavelength is 0 exactly where the first one is
+-- this wavelength is 0 if and only if the first one is
 abbrev pub fits_first : Option ℤ → Option ℤ → Bool
 fits_first (Some first) (Some z) =
     if int_eq first (pos 0) then int_eq z (pos 0) else not (int_eq z (pos 0))
@@ -42,18 +42,18 @@ abbrev pub is_text_of : (List ℕ → Bool) → Option (List ℕ) → Bool
 is_text_of p None = false
 is_text_of p (Some text) = p text
 
--- at most so many, where there is a limit
+-- at most this many, if there is a limit
 abbrev pub is_below : Option ℕ → ℕ → Bool
 is_below None n = true
 is_below (Some greatest) n = nat_le n greatest
 
--- tables alone, from least to greatest of them
+-- only tables, from least to greatest of them
 abbrev pub are_tables : ℕ → Option ℕ → List Data → Bool
 are_tables least greatest ds =
     list_all (λ d. is_some (as_table d)) ds
     && (nat_le least (length ds) && is_below greatest (length ds))
 
--- an array of tables alone, from least to greatest of them
+-- an array of only tables, from least to greatest of them
 abbrev pub is_array_of_tables : ℕ → Option ℕ → Option (List Data) → Bool
 is_array_of_tables least greatest None = false
 is_array_of_tables least greatest (Some ds) = are_tables least greatest ds
@@ -80,7 +80,7 @@ is_required ne.Required = true
 is_required ne.Optional = false
 is_required (ne.Default n) = false
 
--- the number that stands for a missing key
+-- the number used for a missing key
 abbrev pub default_of : Need → Option ℤ
 default_of ne.Required = None
 default_of ne.Optional = None
@@ -90,12 +90,12 @@ default_of (ne.Default n) = Some n
 abbrev pub fitting_number : Sort → Data → Option ℤ
 fitting_number sort d = if fits_sort sort d then as_integer d else None
 
--- the number that stands for a key: a value of its sort, or its default where it is missing
+-- the number of a key: a value of its sort, or its default if it is missing
 abbrev pub number_in : Key → Option Data → Option ℤ
 number_in key None = default_of key.need
 number_in key (Some d) = fitting_number key.sort d
 
--- a row's key, with what stands at it, has a fault of this code
+-- a row's key, with the value found at it, has a fault of this code
 abbrev pub has_fault : Code → Key → Option Data → Bool
 has_fault co.UnknownKey key found = false
 has_fault co.Missing key None = is_required key.need
@@ -118,7 +118,7 @@ abbrev pub has_unknown : List Key → Members → Bool
 has_unknown keys no_members = false
 has_unknown keys (member name d rest) = not (is_listed keys name) || has_unknown keys rest
 
--- the tables of an array of tables; none where there is another value, or none
+-- the tables of an array of tables; none if there is another value, or none
 abbrev pub all_tables : List Data → List Data
 all_tables ds = if list_all (λ d. is_some (as_table d)) ds then ds else []
 

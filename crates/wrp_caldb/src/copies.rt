@@ -62,7 +62,7 @@ fn fibres_copied(alloc: Global, listed: &[ListedFibre]) -> Result<Vec<ListedFibr
 }
 
 impl Lists {
-    /// The same modules and fibres once more. An error comes where there is no memory for them; these
+    /// The same modules and fibres once more. Returns an error if there is no memory for them; these
     /// stay as they are.
     pub fn copied(&self, alloc: Global) -> Result<Lists, AllocError>
         ensures { IfOk result (λ copy. copy ≡ self.now) }
@@ -74,7 +74,7 @@ impl Lists {
 }
 
 impl CalDb {
-    /// The same database once more. An error comes where there is no memory for it; this one stays as
+    /// The same database once more. Returns an error if there is no memory for it; this one stays as
     /// it is.
     pub fn copied(&self, alloc: Global) -> Result<CalDb, AllocError>
         ensures { IfOk result (λ copy. copy ≡ self.now) }

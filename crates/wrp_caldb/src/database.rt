@@ -61,8 +61,8 @@ impl ListedModule {
         self.entries.as_slice()
     }
 
-    /// The numbers for a pair of wavelengths in nm: those of that pair, else those of 0 and 0.
-    /// `None` where the module has neither.
+    /// The numbers for a pair of wavelengths in nm: the numbers of that pair, else the numbers of 0
+    /// and 0. `None` if the module has neither.
     pub fn at(&self, tx_nm: u16, rx_nm: u16) -> Option<Module>
         ensures { result ≡ delays_at self.now.entries tx_nm rx_nm }
     {
@@ -131,7 +131,7 @@ impl Model for ListedFibre {
 }
 
 impl ListedFibre {
-    /// A fibre of this name, with its asymmetry and error, and the points of its stored law where it
+    /// A fibre of this name, with its asymmetry and error, and the points of its stored law if it
     /// has one.
     pub fn new(name: Name, fibre: Fibre, table: Option<StoredTable>) -> ListedFibre
         ensures { result ≡ record { name = name.bytes; fibre = fibre; table = table } }
@@ -153,7 +153,7 @@ impl ListedFibre {
         self.fibre
     }
 
-    /// The points of its stored law and their error, both in tau; `None` where it has no table.
+    /// The points of its stored law and their error, both in tau; `None` if it has no table.
     pub fn table(&self) -> Option<(&[(i64, i64)], u64)>
         ensures value { option_map (λ t. record { points = t.0.now; err = t.1 }) result
             ≡ self.now.table }
@@ -166,8 +166,8 @@ impl ListedFibre {
     }
 }
 
-/// The modules and the fibres that a table lists, which may not be accepted: what is no number
-/// of its row is 0 here, and what is no name is an empty name.
+/// The modules and the fibres that a table lists, which may not be accepted: what is no number of
+/// its row is 0 here, and what is no name is an empty name.
 #[derive(Debug, Drop)]
 pub struct Lists {
     pub(crate) modules: Vec<ListedModule>,
@@ -234,8 +234,8 @@ impl Lists {
         self.fibres.as_slice()
     }
 
-    /// The numbers of a module for a pair of wavelengths in nm: those of that pair, else those of 0
-    /// and 0. `None` exactly where the name is not listed or has neither.
+    /// The numbers of a module for a pair of wavelengths in nm: the numbers of that pair, else the
+    /// numbers of 0 and 0. `None` if and only if the name is not listed or has neither.
     pub fn module_at(&self, name: &str, tx_nm: u16, rx_nm: u16) -> Option<Module>
         ensures { result ≡ module_at self.now name.now tx_nm rx_nm }
     {
@@ -245,7 +245,7 @@ impl Lists {
         }
     }
 
-    /// The asymmetry of a fibre and its error. `None` exactly where the name is not listed.
+    /// The asymmetry of a fibre and its error. `None` if and only if the name is not listed.
     pub fn fibre(&self, name: &str) -> Option<Fibre>
         ensures { result ≡ fibre_at self.now name.now }
     {
@@ -256,7 +256,7 @@ impl Lists {
     }
 
     /// The points of a fibre's stored law, each a two-way delay and a one-way delay down, and their
-    /// error `table_err`, all in tau. `None` exactly where the name is not listed or has no table.
+    /// error `table_err`, all in tau. `None` if and only if the name is not listed or has no table.
     pub fn table(&self, name: &str) -> Option<(&[(i64, i64)], u64)>
         ensures value { option_map (λ t. record { points = t.0.now; err = t.1 }) result
             ≡ table_at self.now name.now }
@@ -278,7 +278,7 @@ impl CalDb {
         CalDb { lists }
     }
 
-    /// What is listed, by itself. It is what an accepted text lists.
+    /// The lists by themselves: what an accepted text lists.
     pub fn lists(&self) -> &Lists
         ensures value { result.now ≡ self.now }
         ensures listed { IsListed self.now }
@@ -300,15 +300,15 @@ impl CalDb {
         self.lists.fibres()
     }
 
-    /// The numbers of a module for a pair of wavelengths in nm: those of that pair, else those of 0
-    /// and 0. `None` exactly where the name is not listed or has neither.
+    /// The numbers of a module for a pair of wavelengths in nm: the numbers of that pair, else the
+    /// numbers of 0 and 0. `None` if and only if the name is not listed or has neither.
     pub fn module_at(&self, name: &str, tx_nm: u16, rx_nm: u16) -> Option<Module>
         ensures { result ≡ module_at self.now name.now tx_nm rx_nm }
     {
         self.lists.module_at(name, tx_nm, rx_nm)
     }
 
-    /// The numbers of a module for any pair of wavelengths. `None` exactly where the name is not
+    /// The numbers of a module for any pair of wavelengths. `None` if and only if the name is not
     /// listed or has no entry of 0 and 0.
     pub fn module(&self, name: &str) -> Option<Module>
         ensures { result ≡ module_at self.now name.now 0 0 }
@@ -316,7 +316,7 @@ impl CalDb {
         self.module_at(name, 0, 0)
     }
 
-    /// The asymmetry of a fibre and its error. `None` exactly where the name is not listed.
+    /// The asymmetry of a fibre and its error. `None` if and only if the name is not listed.
     pub fn fibre(&self, name: &str) -> Option<Fibre>
         ensures { result ≡ fibre_at self.now name.now }
     {
@@ -324,7 +324,7 @@ impl CalDb {
     }
 
     /// The points of a fibre's stored law, each a two-way delay and a one-way delay down, and their
-    /// error `table_err`, all in tau. `None` exactly where the name is not listed or has no table.
+    /// error `table_err`, all in tau. `None` if and only if the name is not listed or has no table.
     pub fn table(&self, name: &str) -> Option<(&[(i64, i64)], u64)>
         ensures value { option_map (λ t. record { points = t.0.now; err = t.1 }) result
             ≡ table_at self.now name.now }

@@ -1,4 +1,4 @@
-//! The versions of a calibration text, and what becomes of keys beside its own.
+//! The versions of a calibration text, and what happens to keys other than its own.
 
 /// The version of a calibration text.
 #[derive(Clone, Copy, Debug, PartialEq, Eq)]
@@ -9,11 +9,11 @@ pub enum Version {
     Two,
 }
 
-/// What becomes of keys of the top that no calibration text has.
+/// What happens to keys of the top that no calibration text has.
 #[derive(Clone, Copy, Debug, PartialEq, Eq)]
 pub enum Others {
     /// They are unknown keys.
     Refused,
-    /// They are not looked at.
+    /// They are ignored.
     Ignored,
 }

@@ -1,5 +1,5 @@
 //! The calibration database: the delays of modules and the asymmetries of fibres, as values, with the
-//! calls that look a name up. What a text of them has to say is in the definitions; the crate
+//! calls that look a name up. The definitions say what a text of them must contain; the crate
 //! `wrp_calibration_text` reads and writes such texts (this project's profile).
 #![tactic(auto)]
 

@@ -37,7 +37,7 @@ pub fn is_name(text: &str) -> bool
     }
 }
 
-/// A text as a name; an empty name where it is none.
+/// A text as a name; an empty name if it is none.
 pub fn name_of(text: &str) -> Name
     ensures { result.bytes ≡ name_or_none (Some text.now) }
 {

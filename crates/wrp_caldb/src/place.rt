@@ -1,6 +1,6 @@
 //! The tables of a text.
 
-/// A table of a text. Tables are counted from 1, those of a kind in the order of the file.
+/// A table of a text. Tables are counted from 1, each kind in the order of the file.
 #[derive(Clone, Copy, Debug, PartialEq, Eq)]
 pub enum At {
     /// The text itself.

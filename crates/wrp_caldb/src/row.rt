@@ -1,4 +1,4 @@
-//! What a key of a table of a TOML text may say: the sort of its value, what is taken for it where it is
+//! What a key of a table of a TOML text may hold: the sort of its value, the value used if it is
 //! missing, and the codes of what is wrong with it.
 ghost use Rattle.std.specs.Prelude.{◌≡◌};
 ghost use Rattle.wrp_caldb.specs.Refusal.{number_of};
@@ -29,13 +29,13 @@ pub enum Sort {
     Identity,
     /// A wavelength in nm: 0 for any, or 800 to 1700.
     Wavelength,
-    /// A wavelength that is 0 exactly where the first one of its pair is.
+    /// A wavelength that is 0 if and only if the first one of its pair is.
     SecondWavelength {
         first: Option<i64>,
     },
-    /// An array of 2 to 32 points, each an array of a two-way delay x and a one-way delay y, in
-    /// tau: x from `-2^30` to `2^53` and rising, y from `-2^53` to `2^53` and not falling, each
-    /// within the law's `err` of the law where there is one.
+    /// An array of 2 to 32 points, each an array of a two-way delay x and a one-way delay y, in tau: x
+    /// from `-2^30` to `2^53` and rising, y from `-2^53` to `2^53` and not falling, each within the
+    /// law's `err` of the law if there is one.
     Points {
         law: Option<Linear>,
     },
@@ -49,14 +49,14 @@ pub enum Sort {
     ModuleName,
     /// A table.
     Table,
-    /// An array of tables alone, at least `least` and at most `greatest` of them.
+    /// An array of only tables, at least `least` and at most `greatest` of them.
     Tables {
         least: usize,
         greatest: Option<usize>,
     },
 }
 
-/// What is taken for a key that is missing.
+/// The value used for a key that is missing.
 #[derive(Clone, Copy, Debug, PartialEq, Eq)]
 pub enum Need {
     /// Nothing: the key has to be there.
@@ -76,7 +76,7 @@ pub enum Code {
     Missing = 3,
     /// A value is of the wrong sort, or out of its range.
     Range = 4,
-    /// A value repeats one that has to be alone.
+    /// A value repeats one that may occur only once.
     Twice = 5,
 }
 

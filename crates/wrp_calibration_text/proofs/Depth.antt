@@ -23,7 +23,7 @@ deep_points (Some t) = let points = deep point_data 1 (λ p. omega arith) t.poin
 deep_fibre : (f : FibreAt) → depth (table (fibre_members f)) ≤ 3
 deep_fibre f = let points = deep_points f.table in omega arith
 
--- at most four tables and arrays stand within one another
+-- at most four tables and arrays are within one another
 pub document_depth : (db : Database) → members_depth (document_of db) ≤ 80
 document_depth db =
     let fibres = deep (λ f. table (fibre_members f)) 3 deep_fibre db.fibres in

@@ -1,4 +1,4 @@
--- What an insert into the map of a table does to the members that it stands for.
+-- What an insert into the map of a table does to the members that the map represents.
 use Rattle.std.proofs.Common.{◌≡◌, List, [], ◌∷◌, String, Global, Ordering, Less, Equal, Greater, refl, ◌∙◌}
 use Rattle.std.specs.Prelude.{string_bytes}
 use Rattle.std.specs.BTreeMap.{insert_entry}

@@ -36,7 +36,7 @@ no_key code at keys t e =
     named_none at (find (at_fault code t) keys)
     (none_parts (place_of_others code at keys t) (place_of_keys code at keys t) e).1
 
--- and the other way round, where no key is unknown
+-- and the other way round, if no key is unknown
 pub no_place : (code : Code) (at : At) (keys : List Key) (t : Members) → place_of_others code at keys t ≡ None
     → find (at_fault code t) keys ≡ None → place_in_table code at keys t ≡ None
 no_place code at keys t others e = rw (others, e) refl
@@ -78,7 +78,7 @@ pub all_true : (ts : List Members) → list_all (λ t. true) ts ≡ true
 all_true [] = refl
 all_true (t ∷ ts) = all_true ts
 
--- tables alone are the tables among them
+-- a list of only tables is the list of the tables in it
 abbrev pub members_in : List Data → List Members
 members_in ds = each_table (λ t. t) ds
 

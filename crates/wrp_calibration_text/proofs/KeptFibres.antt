@@ -34,7 +34,7 @@ lowest = negsuc 274_877_906_943
 abbrev highest : ℤ
 highest = pos 274_877_906_944
 
--- the asymmetry that stands in a fibre
+-- the asymmetry of a fibre
 record IsKappa (found : Option Data) : Type 0 where
   kappa : ℤ
   is : number_in kappa_key found ≡ Some kappa
@@ -96,7 +96,7 @@ err_again found e =
 abbrev fibre_text : Members → Option TableAt → Members
 fibre_text t tab = fibre_members (listed_fibre (name_at t) (fibre_with (number_at kappa_key t) (natural_at fibre_err_key t)) tab)
 
--- what stands in a fibre without a place, before its points
+-- what is in a fibre without a place, before its points
 record HasLine (t : Members) : Type 0 where
   name : IsText is_name (name_in t)
   kappa : IsKappa (get_member (codes "kappa") t)
@@ -117,7 +117,7 @@ line_rows t tab more line rest =
 bare_rows : (t : Members) → HasLine t → find (at_fault co.Range (fibre_text t None)) (fibre_keys (fibre_text t None)) ≡ None
 bare_rows t line = line_rows t None [] line (passes_first (at_fault co.Range (fibre_text t None)) (table_key (law_of (fibre_text t None))) [] refl refl)
 
--- the points, where the value of `table` fits
+-- the points, if the value of `table` fits
 record IsStored (law : Option Linear) (d : Data) : Type 0 where
   points : List (ℤ × ℤ)
   is : stored_points d ≡ Some points
@@ -172,7 +172,7 @@ some_rows t (Some d) line e range =
     subst (λ tab. find (at_fault co.Range (fibre_text t tab)) (fibre_keys (fibre_text t tab)) ≡ None) (sym some)
     (table_rows t d line (err_of (get_member (codes "table_err") t) second.0) s)
 
--- the rows behind those of the line
+-- the rows after those of the line
 abbrev behind_line : Members → List Key
 behind_line t = table_key (law_of t) ∷ (if is_some (get_member (codes "table") t) then table_err_key ∷ [] else [])
 

@@ -73,7 +73,7 @@ entry_count Two t missing range =
     let r = first_passed (at_fault co.Range t) module_name_key (pair_key ∷ []) range in
     count_in (get_member (codes "pair") t) (first_passed (at_fault co.Missing t) pair_key [] m.1).0 (first_passed (at_fault co.Range t) pair_key [] r.1).0
 
--- an array of so many pairs
+-- an array of this many pairs
 pairs_fit : (es : List Entry) → are_some (length es) ≡ true
     → is_array_of_tables 1 (Some 16) (values_of (array (items_of (map (λ e. table (pair_members e)) es)))) ≡ true
 pairs_fit es some =

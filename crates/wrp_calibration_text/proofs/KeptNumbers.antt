@@ -15,7 +15,7 @@ use Rattle.wrp_calibration_text.proofs.ReadBack.{IsSmallTest, value, in_range_sm
 abbrev pub written : ℕ → Option ℤ
 written n = Some (pos (min n 9_223_372_036_854_775_807))
 
--- what is read fits again, where 0 does
+-- what is read fits again, if 0 does
 pub fits_again : (test : Option ℤ → Bool) → IsSmallTest test → test (Some (pos 0)) ≡ true → (o : Option ℤ) (b : Bool) → test o ≡ b
     → test (written (unsigned_abs (value b o))) ≡ true
 fits_again test is least o false e = least

@@ -25,7 +25,7 @@ pub record HasWaves (p : Members) : Type 0 where
   pub second : IsWave (get_member (codes "rx_nm") p)
   pub fits : fits_first (first_wavelength p) (integer_in (codes "rx_nm") p) ≡ true
 
--- the rows behind the wavelengths
+-- the rows after the wavelengths
 abbrev pub delay_keys : List Key
 delay_keys = tx_key ∷ rx_key ∷ transition_key ∷ module_err_key ∷ []
 

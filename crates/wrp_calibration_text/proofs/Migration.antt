@@ -24,7 +24,7 @@ use Rattle.wrp_calibration_text.proofs.KeptFibres.{fibres_kept}
 use Rattle.wrp_calibration_text.proofs.ReadBack.{database_again, tables_again}
 use Rattle.wrp_calibration_text.proofs.Values.{list_of-items_of}
 
--- an array of tables alone, however many
+-- an array of only tables, however many
 any_tables : {X : Type 0} (g : X → Members) (xs : List X)
     → are_tables 0 None (list_of (items_of (map (λ x. table (g x)) xs))) ≡ true
 any_tables g xs = ap (are_tables 0 None) (list_of-items_of (map (λ x. table (g x)) xs)) ∙ all_fit (map (λ x. table (g x)) xs) (tables_again g xs)
@@ -64,12 +64,12 @@ accepted_again others doc accepted code =
     let kept_fibres = fibres_kept (option_and_then values_of (get_member (codes "fibre") doc)) last code in
     rw (top_again code db, module_key_again code db, kept_modules, fibre_key_again code db, kept_fibres) refl
 
--- octets of a text are some text
+-- octets of a text are a text
 no_text : (octets : List ℕ) (doc : Members) → IsTextOf doc octets → IsNoText octets → ⊥
 no_text octets doc text (inl none) = none text.0
 no_text octets doc text (inr none) = cc (none, text.1)
 
--- any reading of the text is this database, or want of memory
+-- any reading of the text is this database, or out of memory
 pub same_again : (db : Database) (octets : List ℕ) → IsListed db → IsTextOf (document_of db) octets
     → (answer : Result Database ConfFault) → IsReadingOf octets answer → IsSame db answer
 same_again db octets listed text (Ok back) reading =

@@ -19,7 +19,7 @@ either true false = refl
 either false true = refl
 either false false = refl
 
--- a name that was added is met, beside those that were
+-- a name that was added is met, in addition to those that were
 pub one_more : (name text : List ℕ) (before after : Bool) → after ≡ cond (is_eq (slice_cmp nat_cmp name text)) true before
     → after ≡ (before || bytes_eq name text)
 one_more name text before after is =
@@ -44,7 +44,7 @@ among (Some table) earlier none = nameless table earlier none
 pub repeats_none : (d : Data) (earlier : List Data) → name_of_value d ≡ None → repeats_name earlier d ≡ false
 repeats_none d earlier none = among (as_table d) earlier none
 
--- a table is told by what its value is told
+-- what is reported of a value is reported of its table
 pub if_told : {E : Type 0} (code : Code) (earlier : List Data) (d : Data) (table : Members) (answer : Result Bool E) → as_table d ≡ Some table
     → IfOk answer (λ repeats. repeats ≡ repeats_name earlier d) → IfOk answer (λ repeats. IsTold code earlier table repeats)
 if_told code earlier d table (Ok repeats) is told =

@@ -26,7 +26,7 @@ use Rattle.wrp_caldb.specs.declared.row.Linear.{Linear}
 use Rattle.wrp_calibration_text.proofs.Kept.{none_parts, at_fault, no_key, members_in, tables_of-members, each_table-map}
 use Rattle.wrp_calibration_text.proofs.PlainTexts.{ItemsArePlain, MembersArePlain, Fits, one_document, document_text}
 
--- ---- the document of a database is plain where the numbers of its fibres are
+-- ---- the document of a database is plain if the numbers of its fibres are
 
 abbrev PointsAre : (ℤ → Type 0) → List (ℤ × ℤ) → Type 0
 PointsAre Q [] = Unit {0}
@@ -125,7 +125,7 @@ stored_fit : (law : Option Linear) (err : ℕ) (o : Option (List (ℤ × ℤ))) 
 stored_fit law err None e = tt
 stored_fit law err (Some ps) e = fitting_points law ps (and_parts (list_all (is_sound law) ps) (rises ps) e).0
 
--- the points that stand at `table`
+-- the points at `table`
 fitting_table : (law : Option Linear) (err : ℕ) (found : Option Data) → has_fault co.Range (table_key law) found ≡ false
     → TableIs Fits (option_map (λ ps. record { points = ps; err = err }) (option_and_then stored_points found))
 fitting_table law err None range = tt
@@ -142,11 +142,11 @@ fitting_kappa : (found : Option Data) → Fits (unwrap_or (number_in kappa_key f
 fitting_kappa None = fits_signed_from_abs w64 (pos 0) (lit< tt)
 fitting_kappa (Some d) = kappa_if (as_integer d) (in_range (negsuc 274_877_906_943) (pos 274_877_906_944) (as_integer d)) refl
 
--- the rows behind those of a fibre's line
+-- the rows after those of a fibre's line
 abbrev behind_line : Members → List Key
 behind_line t = if is_some (get_member (codes "table") t) then table_err_key ∷ [] else []
 
--- what stands at `table` in a fibre without a place
+-- what is at `table` in a fibre without a place
 table_fits : (ds : List Data) (n : ℕ) (t : Members) → place_in_fibre co.Range ds n t ≡ None
     → has_fault co.Range (table_key (law_of t)) (get_member (codes "table") t) ≡ false
 table_fits ds n t none =

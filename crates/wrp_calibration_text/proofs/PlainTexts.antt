@@ -1,5 +1,5 @@
--- The texts that `toml` writes for a document. The relation leaves a choice at floats alone, and is empty only where a whole
--- number does not fit or the keys of a table do not ascend: without these a document has exactly one text.
+-- The texts that `toml` writes for a document. The relation leaves a choice only at floats, and is empty only if a
+-- whole number does not fit or the keys of a table do not ascend: without these a document has exactly one text.
 use Rattle.std.proofs.Common.{◌≡◌, ◌++◌, ℕ, ℤ, List, [], ◌∷◌, Bool, true, false, FitsSigned, refl, sym, ap, ap₂, ◌∙◌}
 use Rattle.std.specs.Int.{w64}
 use Rattle.std.specs.Prelude.{codes, if◌then◌else◌}
@@ -11,7 +11,7 @@ use Rattle.toml.specs.Text.{IsValueText, IsItemsText, IsMembersText, IsLineText,
 abbrev Key : Type 0
 Key = List (List ℕ) × List ℕ
 
--- whole numbers of this sort, no floats, and keys that ascend
+-- whole numbers of this kind, no floats, and keys that ascend
 module _ (IsNumber : ℤ → Type 0) where
   abbrev mutual
     pub IsPlain : Data → Type 0

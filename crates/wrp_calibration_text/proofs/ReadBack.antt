@@ -23,7 +23,7 @@ use Rattle.wrp_caldb.specs.declared.keys.Version.{Version}
 use Rattle.wrp_caldb.specs.declared.keys.Version.TheVariants.{One, Two}
 use Rattle.wrp_calibration_text.proofs.Values.{list_of-items_of}
 
--- the number that is read where this one stands, and the test of it has this answer
+-- the number that is read if this one is there, and the test of it has this answer
 abbrev pub value : Bool → Option ℤ → ℤ
 value fits found = unwrap_or (if fits then found else None) (pos 0)
 
@@ -31,7 +31,7 @@ zero_either : (b : Bool) → value b (Some (pos 0)) ≡ pos 0
 zero_either true = refl
 zero_either false = refl
 
--- a test of numbers that only those from 0 on pass, of at most 63 bits
+-- a test of numbers that only numbers from 0 on pass, of at most 63 bits
 pub record IsSmallTest (test : Option ℤ → Bool) : Type 0 where
   pub none : test None ≡ false
   pub negative : (m : ℕ) → test (Some (negsuc m)) ≡ false

@@ -1,4 +1,4 @@
--- The codes tried in turn give the least one that has a place; memory may be wanting for the answer.
+-- The codes tried in turn give the least one that has a place; there may be no memory for the answer.
 use Rattle.std.proofs.Common.{◌≡◌, ◌↔◌, ◌<◌, Option, None, Some, Result, Ok, Err, IfOk, refl, sym, subst, arith}
 use Rattle.std.specs.Option.{option_or}
 use Rattle.std.proofs.lemmas.Option.{same_Some}
@@ -84,14 +84,14 @@ none_chosen None None None None co.Missing e = refl
 none_chosen None None None None co.Range e = refl
 none_chosen None None None None co.Twice e = refl
 
--- there is no answer exactly where no code has a place
+-- there is no answer if and only if no code has a place
 pub least_none : (first : Code → Option PlaceAt) → (least_of first ≡ None) ↔ HasNone first
 least_none first = (
   λ e code. rw (picked first code) at (none_chosen (first co.UnknownKey) (first co.Missing) (first co.Range) (first co.Twice) code e),
   λ none. rw (none co.UnknownKey, none co.Missing, none co.Range, none co.Twice) refl,
 )
 
--- what holds of a value holds of an answer that is this value, where it is one
+-- what holds of a value holds of an answer that is this value, if there is one
 pub on_answer : {X E : Type 0} (P : X → Type 0) (value : X) (answer : Result X E) → IfOk answer (λ x. x ≡ value) → P value → IfOk answer P
 on_answer P value (Ok x) is holds = subst P (sym is) holds
 on_answer P value (Err error) is holds = tt

@@ -1,4 +1,4 @@
--- The values of an array and the keys of a table, beside the items and members that they stand for.
+-- The values of an array and the keys of a table, with the items and members that they represent.
 use Rattle.std.proofs.Common.{◌≡◌, ◌&&◌, ◌||◌, not, ℕ, List, [], ◌∷◌, Bool, false, map, take, String, Global, refl, ap, ◌∙◌}
 use Rattle.std.proofs.lemmas.List.{take-map}
 use Rattle.std.specs.Prelude.{string_bytes}

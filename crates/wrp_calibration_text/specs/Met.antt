@@ -1,5 +1,4 @@
--- The names that a pass over some values has met, and the repeats that it tells by them (this
--- project's profile).
+-- The names that a pass over some values has met, and the repeats that it finds with them (this project's profile).
 use Rattle.std.specs.Prelude.{◌≡◌, ℕ, List, Bool, false, Option, Some, option_and_then}
 use Rattle.std.specs.Borrow.{Bor}
 use Rattle.std.specs.BTreeSet.{BTreeSet, contains_by}
@@ -20,7 +19,7 @@ name_of_value d = option_and_then name_in (as_table d)
 abbrev pub is_called : List ℕ → Data → Bool
 is_called name d = are_same_texts (name_of_value d) (Some name)
 
--- the value is a table with the name of one of the earlier ones
+-- the value is a table with the name of an earlier one
 abbrev pub repeats_name : List Data → Data → Bool
 repeats_name earlier d =
     option_map_or (λ table. list_any (has_name_of table) earlier) (as_table d) false
@@ -33,11 +32,11 @@ is_met name names = contains_by (λ k. slice_cmp nat_cmp name k.now) names
 abbrev pub AreNamesOf : BTreeSet (Bor (List ℕ)) → List Data → Type 0
 AreNamesOf names values = (name : List ℕ) → is_met name names ≡ list_any (is_called name) values
 
--- the names are kept where the code is `Twice`
+-- the names are kept if the code is `Twice`
 abbrev pub AreMet : Code → BTreeSet (Bor (List ℕ)) → List Data → Type 0
 AreMet code names values = code ≡ co.Twice → AreNamesOf names values
 
--- where the code is `Twice`, a table's name is told to be that of an earlier one exactly where it is
+-- if the code is `Twice`, a table's name is reported as the name of an earlier table if and only if it is
 abbrev pub IsTold : Code → List Data → Members → Bool → Type 0
 IsTold code earlier table repeats =
     code ≡ co.Twice → repeats ≡ list_any (has_name_of table) earlier

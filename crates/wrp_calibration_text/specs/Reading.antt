@@ -29,8 +29,8 @@ abbrev pub IsSyntax : ConfFault → Type 0
 IsSyntax (Fault number text) = (number ≡ 1) × (text.bytes ≡ codes "-")
 IsSyntax (Memory e) = ⊥
 
--- the answer for a table: its database where it is accepted, else the least code at its first
--- place; want of memory may come for any
+-- the answer for a table: its database if it is accepted, else the least code at its first place; for any table the
+-- answer may be out of memory
 abbrev pub IsAnswerOf : Others → Members → Result Database ConfFault → Type 0
 IsAnswerOf others doc (Ok db) = IsAccepted others doc × (db ≡ database_of doc)
 IsAnswerOf others doc (Err (Fault number place)) = IsFaultOf others doc number place.bytes

@@ -1,4 +1,4 @@
--- The text of version 2 that a database is written as (this project's profile).
+-- The text of version 2 as which a database is written (this project's profile).
 use Rattle.std.specs.Prelude.{◌≡◌, ℕ, ℤ, pos, List, Option, Some, None, map, min, codes, false, Result, Ok, Err}
 use Rattle.std.specs.Ordering.{nat_cmp, match_ordering}
 use Rattle.std.specs.Cmp.Lexicographic.{slice_cmp}
@@ -40,7 +40,7 @@ module_members m =
 abbrev pub point_data : ℤ × ℤ → Data
 point_data p = array (item (integer p.0) (item (integer p.1) no_items))
 
--- the points and their error, where there are some
+-- the points and their error, if there are any
 abbrev pub table_members : Option TableAt → Members
 table_members None = no_members
 table_members (Some t) =
@@ -78,7 +78,7 @@ OneText = (db : Database) (octets other : List ℕ) → IsTextDue db octets → 
 abbrev pub EachHasText : Type 0
 EachHasText = (db : Database) → IsListed db → (octets : List ℕ) × IsTextDue db octets
 
--- an answer that is this database, or want of memory
+-- an answer that is this database, or out of memory
 abbrev pub IsSame : Database → Result Database ConfFault → Type 0
 IsSame db (Ok back) = back ≡ db
 IsSame db (Err (Fault number place)) = ⊥

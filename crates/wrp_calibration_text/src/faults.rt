@@ -63,7 +63,7 @@ fn has_unknown(table: &Table, rows: &[Row]) -> bool
     false
 }
 
-/// The table, where the code is `UnknownKey` and it has a key that has no row.
+/// The table, if the code is `UnknownKey` and it has a key that has no row.
 pub fn place_of_others(at: At, table: &Table, rows: &[Row], code: Code) -> Option<Place>
     ensures { result ≡ place_of_others code at rows.now (table_view table.now) }
 {
@@ -79,8 +79,8 @@ pub fn place_of_others(at: At, table: &Table, rows: &[Row], code: Code) -> Optio
     }
 }
 
-/// The first place of a code in a table with these rows: the table where it has a key without a
-/// row, then the keys in the order of the rows.
+/// The first place of a code in a table with these rows: the table if it has a key without a row,
+/// then the keys in the order of the rows.
 pub fn place_in_table(at: At, table: &Table, rows: &[Row], code: Code) -> Option<Place>
     ensures { result ≡ place_in_table code at rows.now (table_view table.now) }
 {

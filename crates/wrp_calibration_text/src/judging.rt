@@ -154,9 +154,9 @@ fn place_in_fibres(alloc: Global, code: Code, fibres: &[Value]) -> Result<Option
     Ok(None)
 }
 
-/// The first place of a code after the top: the key `module`, the modules, the key `fibre`, the
-/// fibres. Memory is taken for the code `Twice` alone, and an error comes where there is none for it.
-/// The table stays as it is.
+/// The first place of a code after the top: the key `module`, the modules, the key `fibre`, the fibres.
+/// Memory is taken only for the code `Twice`; returns an error if there is none for it. The table stays
+/// as it is.
 pub fn place_in_lists(alloc: Global, code: Code, doc: &Table) -> Result<Option<Place>, AllocError>
     ensures { IfOk result (λ place. place ≡ place_in_lists code (table_view doc.now)) }
 {
@@ -219,9 +219,9 @@ fn least_of(alloc: Global, others: Others, doc: &Table) -> Result<Option<(Code, 
     }
 }
 
-/// Why a calibration text is refused: the least code that has a place, at its first place. Memory
-/// is taken where no code below `Twice` has a place, and an error comes where there is none for it. The
-/// table stays as it is.
+/// Why a calibration text is refused: the least code that has a place, at its first place. Memory is
+/// taken if no code below `Twice` has a place; returns an error if there is none for it. The table
+/// stays as it is.
 pub fn refusal(
     alloc: Global,
     others: Others,

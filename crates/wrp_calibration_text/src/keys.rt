@@ -12,7 +12,7 @@ use crate::value::value_at;
 use toml::Table;
 use wrp_caldb::{Linear, Sort, Version};
 
-/// `version`: 1 or 2, and 1 where it is missing.
+/// `version`: 1 or 2, and 1 if it is missing.
 pub fn version_row() -> Row
     ensures { result ≡ version_key }
 {
@@ -52,7 +52,7 @@ pub fn top_rows() -> [Row; 3]
     [version_row(), module_row(), fibre_row()]
 }
 
-/// The version of a text: 2 where `version` is 2, else 1.
+/// The version of a text: 2 if `version` is 2, else 1.
 pub fn version_of(doc: &Table) -> Version
     ensures { result ≡ version_of (table_view doc.now) }
 {
@@ -136,7 +136,7 @@ pub fn tx_nm_row() -> Row
     Row::required("tx_nm", Sort::Wavelength)
 }
 
-/// The row of the second wavelength, where the first one is this.
+/// The row of the second wavelength, if the first one is this.
 pub fn rx_nm_row(first: Option<i64>) -> Row
     ensures { result ≡ rx_nm_key first }
 {
@@ -188,14 +188,14 @@ pub fn fibre_err_row() -> Row
     Row::number("err", 1, 1_000_000_000)
 }
 
-/// `table_err`: in tau, 0 to `10^9`, and 0 where it is missing.
+/// `table_err`: in tau, 0 to `10^9`, and 0 if it is missing.
 pub fn table_err_row() -> Row
     ensures { result ≡ table_err_key }
 {
     Row::with_default("table_err", 0, 1_000_000_000, 0)
 }
 
-/// The law that a fibre's points have to keep to; `None` where its numbers are out of their ranges.
+/// The law that a fibre's points have to keep to; `None` if its numbers are out of their ranges.
 pub fn law_of(fibre: &Table) -> Option<Linear>
     ensures { result ≡ law_of (table_view fibre.now) }
 {

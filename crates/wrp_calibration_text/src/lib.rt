@@ -1,6 +1,6 @@
-//! Calibration texts: TOML that a calibration laboratory writes of modules and fibres, read into the
-//! database of `wrp_caldb` and written from it, and every mistake in such a text with its code and its
-//! place (this project's profile). The rows, places and refusals serve the network file too.
+//! Calibration texts: TOML in which a calibration laboratory describes modules and fibres, read into
+//! the database of `wrp_caldb` and written from it, and every mistake in such a text with its code and
+//! its place (this project's profile). The rows, places and refusals also serve the network file.
 #![tactic(auto)]
 
 mod faults;

@@ -22,7 +22,7 @@ fn name_of_value<'a>(value: &'a Value) -> Option<&'a str>
     }
 }
 
-// Whether a name was met before; it is noted.
+// Whether a name was met before; the call also notes it.
 fn meets<'a>(names: &mut BTreeSet<&'a str>, name: &'a str) -> Result<bool, AllocError>
     ensures before { IfOk result (λ met. met ≡ is_met name.now names.old) }
     ensures noted { OnOk result ((text : List ℕ) →
@@ -32,7 +32,7 @@ fn meets<'a>(names: &mut BTreeSet<&'a str>, name: &'a str) -> Result<bool, Alloc
     Ok(!added)
 }
 
-// Whether a value is a table with the name of one before it; its name is noted.
+// Whether a value is a table with the name of one before it; the call also notes its name.
 fn repeats_name<'a>(names: &mut BTreeSet<&'a str>, value: &'a Value) -> Result<bool, AllocError>
     ensures before { (earlier : List Data) → AreNamesOf names.old earlier
         → IfOk result (λ repeats. repeats ≡ repeats_name earlier (view value.now)) }
@@ -45,9 +45,9 @@ fn repeats_name<'a>(names: &mut BTreeSet<&'a str>, value: &'a Value) -> Result<b
     }
 }
 
-/// Whether a value is a table with the name of one before it, where the code is `Twice`; its name is
-/// noted. Nothing is asked or noted for another code. An error comes where there is no memory to note
-/// the name; the names that were noted before stay.
+/// Whether a value is a table with the name of one before it, if the code is `Twice`; the call also
+/// notes its name. For another code nothing is checked or noted. Returns an error if there is no
+/// memory to note the name; the names that were noted before stay.
 pub fn is_repeat<'a>(
     code: Code,
     names: &mut BTreeSet<&'a str>,

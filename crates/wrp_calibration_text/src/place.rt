@@ -45,8 +45,8 @@ impl Place {
     }
 
     /// The place as a refusal's line writes it: `module.2` for a table, `module.2.tx` for a key,
-    /// `module.2.pair.1.tx_nm` for a key of a pair, and the name alone for a key of the top. An error
-    /// comes where there is no memory for the digits of a number; the place stays as it is.
+    /// `module.2.pair.1.tx_nm` for a key of a pair, and the name alone for a key of the top. Returns
+    /// an error if there is no memory for the digits of a number; the place stays as it is.
     pub fn text(&self, alloc: Global) -> Result<ArrayString<96>, AllocError>
         ensures { IfOk result (λ text. text.bytes ≡ place_text self.now) }
     {

@@ -1,4 +1,4 @@
-//! The points of a stored delay law, as an array of a text says them.
+//! The points of a stored delay law, as an array of a text gives them.
 ghost use Rattle.std.specs.Prelude.{◌≡◌, ◌≤◌, ◌&&◌, ◌^◌, ℕ, ℤ, unsigned_abs, Some, None, map, option_map, IsTrue, length};
 ghost use Rattle.std.specs.List.{list_all};
 ghost use Rattle.toml.specs.View.{view};
@@ -9,7 +9,7 @@ use toml::Value;
 use wrp_base::{difference, product, sum};
 use wrp_caldb::{Linear, Points};
 
-// The point that two whole numbers say.
+// The point that two whole numbers give.
 fn two_numbers(values: &[Value]) -> Option<(i64, i64)>
     ensures { result ≡ two_numbers (map view values.now) }
 {
@@ -22,7 +22,7 @@ fn two_numbers(values: &[Value]) -> Option<(i64, i64)>
     }
 }
 
-// The point that an array of two whole numbers says.
+// The point that an array of two whole numbers gives.
 fn point_of(value: &Value) -> Option<(i64, i64)>
     ensures { result ≡ point_of (view value.now) }
 {
@@ -32,7 +32,7 @@ fn point_of(value: &Value) -> Option<(i64, i64)>
     }
 }
 
-// The points of at most 32 values, where each is one.
+// The points of at most 32 values, if each is one.
 fn points_of(values: &[Value]) -> Option<Points>
     requires { length values.now ≤ 32 }
     ensures { option_map (λ ps. ps.items) result ≡ points_of (map view values.now) }
@@ -47,7 +47,7 @@ fn points_of(values: &[Value]) -> Option<Points>
     Some(points)
 }
 
-// The points of 2 to 32 values, where each is one.
+// The points of 2 to 32 values, if each is one.
 fn few_points(values: &[Value]) -> Option<Points>
     ensures { option_map (λ ps. ps.items) result ≡ few_points (map view values.now) }
 {
@@ -58,8 +58,8 @@ fn few_points(values: &[Value]) -> Option<Points>
     }
 }
 
-/// The points of an array of 2 to 32 arrays of two whole numbers; `None` where the value is
-/// another.
+/// The points of an array of 2 to 32 arrays of two whole numbers; `None` if the value is anything
+/// else.
 pub fn stored_points(value: &Value) -> Option<Points>
     ensures { option_map (λ ps. ps.items) result ≡ stored_points (view value.now) }
 {
@@ -121,7 +121,7 @@ fn distance_from(law: Linear, point: (i64, i64)) -> u128
     difference(stored, exact).unsigned_abs()
 }
 
-// Whether a point is within the law's error of it, where there is a law.
+// Whether a point is within the law's error of it, if there is a law.
 fn is_near(law: Option<Linear>, point: (i64, i64)) -> bool
     requires x { unsigned_abs point.0 ≤ 2 ^ 53 }
     requires y { unsigned_abs point.1 ≤ 2 ^ 53 }
@@ -147,7 +147,7 @@ fn all_sound(law: Option<Linear>, points: &[(i64, i64)]) -> bool
 }
 
 /// Whether a value is an array of 2 to 32 points that are within the bounds, rise, and are each
-/// within the law's `err` of the law, where there is one.
+/// within the law's `err` of the law, if there is one.
 pub fn is_table_of_points(law: Option<Linear>, value: &Value) -> bool
     ensures { result ≡ is_table law (stored_points (view value.now)) }
 {

@@ -28,7 +28,7 @@ use wrp_caldb::{
 };
 use wrp_network::Name;
 
-/// The number at a row's key, or its default; 0 where no number of its sort is there.
+/// The number at a row's key, or its default; 0 if no number of its sort is there.
 pub fn number(table: &Table, row: &Row) -> i64
     ensures { result ≡ number_at row.now (table_view table.now) }
 {
@@ -62,7 +62,7 @@ fn second_nm(pair: &Table) -> u16
     natural(pair, &rx_nm_row(None)) as u16
 }
 
-/// The name at `name`; an empty name where there is none.
+/// The name at `name`; an empty name if there is none.
 pub fn name_at(table: &Table) -> Name
     ensures { result.bytes ≡ name_at (table_view table.now) }
 {
@@ -151,7 +151,7 @@ fn modules_of(
     Ok(modules)
 }
 
-// The stored points of a fibre, where it has `table`.
+// The stored points of a fibre, if it has `table`.
 fn table_of(fibre: &Table) -> Option<StoredTable>
     ensures { result ≡ table_of (table_view fibre.now) }
 {
@@ -196,7 +196,7 @@ fn database_of(alloc: Global, others: Others, doc: &Table) -> Result<CalDb, Allo
 }
 
 /// Lists what the keys `version`, `module` and `fibre` of a table say, whether the table is accepted or
-/// not. An error comes where there is no memory for the lists; nothing is left of them then.
+/// not. Returns an error if there is no memory for the lists; nothing is left of them then.
 pub fn lists_of(alloc: Global, t: &Table) -> Result<Lists, AllocError>
     ensures { IfOk result (λ lists. lists ≡ database_of (table_view t.now)) }
 {
@@ -205,7 +205,7 @@ pub fn lists_of(alloc: Global, t: &Table) -> Result<Lists, AllocError>
     Ok(Lists::new(modules, fibres))
 }
 
-/// The fault of a code at a place, or want of memory for the place's text.
+/// The fault of a code at a place, or out of memory, if there is no memory for the place's text.
 pub fn fault_at(alloc: Global, code: Code, place: &Place) -> ConfFault
     ensures { IsFaultAt code place.now result }
 {
@@ -261,14 +261,14 @@ fn answer_for(alloc: Global, text: &str) -> Result<CalDb, ConfFault>
 /// How a calibration database is read.
 pub trait ReadCalibration {
     /// Reads a calibration text: TOML with the keys `version`, `module` and `fibre`. A fault is the
-    /// least code that the text has, at the first place that has it: 1 Syntax at `-` where the
-    /// octets are no UTF-8 or no TOML, 2 UnknownKey, 3 Missing, 4 Range, 5 Twice (this project's
-    /// profile). Want of memory is an answer of its own. Nothing is left of a text that is not read.
+    /// least code that the text has, at the first place that has it: 1 Syntax at `-` if the octets are
+    /// no UTF-8 or no TOML, 2 UnknownKey, 3 Missing, 4 Range, 5 Twice (this project's profile). Out of
+    /// memory is an answer of its own. Nothing is left of a text that is not read.
     fn read(alloc: Global, bytes: &[u8]) -> Result<CalDb, ConfFault>;
 
-    /// Reads the keys `version`, `module` and `fibre` of a table, and looks at no other. A fault is
-    /// the least code that they have, at the first place that has it: 2 UnknownKey, 3 Missing, 4
-    /// Range, 5 Twice. Want of memory is an answer of its own. The table stays as it is.
+    /// Reads the keys `version`, `module` and `fibre` of a table, and ignores all others. A fault is
+    /// the least code that they have, at the first place that has it: 2 UnknownKey, 3 Missing, 4 Range,
+    /// 5 Twice. Out of memory is an answer of its own. The table stays as it is.
     fn from_table(alloc: Global, t: &Table) -> Result<CalDb, ConfFault>;
 }
 

@@ -56,7 +56,7 @@ fn has_name_before(values: &[Value], count: usize, table: &Table) -> bool
     any_has_name_of(table, &values[..count])
 }
 
-/// The key `name`, where the code is `Twice` and `repeats` says that the table has the name of an
+/// The key `name`, if the code is `Twice` and `repeats` says that the table has the name of an
 /// earlier one.
 pub fn place_of_repeat(code: Code, at: At, repeats: bool) -> Option<Place>
     ensures { (earlier : List Data) (table : Members) → IsTold code earlier table repeats
@@ -74,8 +74,8 @@ pub fn place_of_repeat(code: Code, at: At, repeats: bool) -> Option<Place>
     }
 }
 
-/// The key `name`, where the code is `Twice` and one of the first values is a table with the same
-/// name. It searches them one by one, so it is for the short lists of nodes and links alone.
+/// The key `name`, if the code is `Twice` and one of the first values is a table with the same name.
+/// It searches them one by one, so it is only for the short lists of nodes and links.
 pub fn place_of_name(
     code: Code,
     at: At,
@@ -151,8 +151,8 @@ fn has_wavelengths_before(values: &[Value], count: usize, table: &Table) -> bool
     any_has_wavelengths_of(table, &values[..count])
 }
 
-// The pair, where one of the first values is a pair of the same wavelengths. It searches them one by
-// one: where `Twice` is looked for, a module has at most 16 pairs, since more are out of range.
+// The pair, if one of the first values is a pair of the same wavelengths. It searches them one by
+// one: when `Twice` is looked for, a module has at most 16 pairs, since more are out of range.
 pub fn place_of_pair(
     code: Code,
     at: At,

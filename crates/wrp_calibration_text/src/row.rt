@@ -58,8 +58,7 @@ impl Row {
         Row::required(key, Sort::Number { least, greatest })
     }
 
-    /// A key of a whole number from `least` to `greatest`, and what is taken for it where it is
-    /// missing.
+    /// A key of a whole number from `least` to `greatest`, and the value used if it is missing.
     pub fn with_default(key: &'static str, least: i64, greatest: i64, default: i64) -> Row
         requires { length key.now ≤ 16 }
         ensures { result ≡ default_key key.now least greatest default }
@@ -71,7 +70,7 @@ impl Row {
         }
     }
 
-    /// A key with what is taken for it where it is missing.
+    /// A key with the value used if it is missing.
     pub fn defaulted(key: &'static str, sort: Sort, default: i64) -> Row
         requires { length key.now ≤ 16 }
         ensures { result ≡ defaulted_key key.now sort default }
@@ -91,7 +90,7 @@ impl Row {
         self.key
     }
 
-    /// What is taken for the key where it is missing.
+    /// The value used for the key if it is missing.
     pub fn need(&self) -> Need
         ensures { result ≡ self.now.need }
     {

@@ -29,7 +29,7 @@ fn is_wavelength(number: Option<i64>) -> bool
     }
 }
 
-// Whether a wavelength is 0 exactly where the first one is.
+// Whether a wavelength is 0 if and only if the first one is.
 fn fits_first(first: Option<i64>, number: Option<i64>) -> bool
     ensures { result ≡ fits_first first number }
 {
@@ -48,7 +48,7 @@ fn is_below(greatest: Option<usize>, number: usize) -> bool
     }
 }
 
-// Whether values are tables alone, from `least` to `greatest` of them.
+// Whether the values are only tables, from `least` to `greatest` of them.
 fn are_tables(values: &[Value], least: usize, greatest: Option<usize>) -> bool
     ensures { result ≡ are_tables least greatest (map view values.now) }
 {
@@ -109,7 +109,7 @@ fn fitting_number(sort: Sort, value: &Value) -> Option<i64>
     }
 }
 
-// What is taken for a key that is missing.
+// The value used for a key that is missing.
 fn default_of(need: Need) -> Option<i64>
     ensures { result ≡ default_of need }
 {
@@ -119,7 +119,7 @@ fn default_of(need: Need) -> Option<i64>
     }
 }
 
-/// The number of a row's key: a value of its sort, or its default where it is missing.
+/// The number of a row's key: a value of its sort, or its default if it is missing.
 pub fn number_at(table: &Table, row: &Row) -> Option<i64>
     ensures { result ≡ number_in row.now (get_member row.now.name (table_view table.now)) }
 {

@@ -180,7 +180,7 @@ fn document_of(alloc: Global, database: &CalDb) -> Result<Table, AllocError>
     Ok(document)
 }
 
-// A table printed as `toml` does, which reads back as the same where it is not too deep.
+// A table printed as `toml` does, which reads back as the same if it is not too deep.
 fn printed(alloc: Global, document: &Table) -> Result<String, AllocError>
     ensures printed { IfOk result (λ text. IsDocumentText false (table_view document.now) (string_bytes text)) }
     ensures reads_back { IfOk result (λ text. members_depth (table_view document.now) ≤ 80
@@ -204,8 +204,8 @@ fn octets_of(text: String) -> Vec<u8>
 /// How a calibration database is written.
 pub trait WriteCalibration {
     /// The database as a calibration text of version 2, as `toml` prints it. A module of version 1
-    /// has one pair there, of the wavelengths 0 and 0. Reading the text gives the same database.
-    /// No other octets are what `toml` prints for this database. An error comes where there is no
+    /// has one pair there, of the wavelengths 0 and 0. Reading the text gives the same database. No
+    /// other octets are what `toml` prints for this database. Returns an error if there is no
     /// memory for the text; the database stays as it is.
     fn text(&self, alloc: Global) -> Result<Vec<u8>, AllocError>;
 }

@@ -16,7 +16,7 @@ pub fn value_at<'a>(table: &'a Table, key: &str) -> Option<&'a Value>
     table.get(key)
 }
 
-/// The values of an array; `None` where the value is another.
+/// The values of an array; `None` if the value is anything else.
 pub fn array_of<'a>(value: &'a Value) -> Option<&'a [Value]>
     ensures { option_map (λ a. map view a.now) result ≡ values_of (view value.now) }
 {
@@ -48,7 +48,7 @@ fn each_is_table(values: &[Value]) -> bool
     values.iter().all(|value| is_table(value))
 }
 
-/// The tables of the array of tables at a key; none where there is another value, or none.
+/// The tables of the array of tables at a key; none if there is another value, or none.
 pub fn tables_at<'a>(table: &'a Table, key: &str) -> &'a [Value]
     ensures { map view result.now ≡ tables_at key.now (table_view table.now) }
 {
@@ -61,7 +61,7 @@ pub fn tables_at<'a>(table: &'a Table, key: &str) -> &'a [Value]
     }
 }
 
-// The values where all are tables, else none.
+// The values if all are tables, else none.
 fn tables_among(values: &[Value]) -> &[Value]
     ensures { map view result.now ≡ all_tables (map view values.now) }
 {

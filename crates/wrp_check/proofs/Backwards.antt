@@ -7,17 +7,17 @@ use Rattle.wrp_base.specs.declared.message.WrMsg.{WrMsg}
 use Rattle.wrp_base.specs.declared.message.WrMsg.TheVariants.{Present as SLAVE_PRESENT}
 use Rattle.wrp_check.specs.Stretches.{with_mover, HasNoMover, HasMover, movers_of}
 
--- the element at i comes first, read from behind
+-- the element at i comes first, read from the end
 pub reverse_more : {A : Type 0} (xs : List A) (i : ℕ) (d : A) → i < length xs → reverse (take (i + 1) xs) ≡ get_or xs i d ∷ reverse (take i xs)
 reverse_more xs i d lt = ap reverse (take_more xs i d lt) ∙ reverse-append (take i xs) (get_or xs i d ∷ [])
 
--- a list read from behind, with the element at i
+-- a list read from the end, with the element at i
 pub reverse_split : {A : Type 0} (xs : List A) (i : ℕ) (d : A) → i < length xs →
     reverse xs ≡ reverse (drop (i + 1) xs) ++ get_or xs i d ∷ reverse (take i xs)
 reverse_split xs i d lt =
     ap reverse (sym (take-append-drop (i + 1) xs)) ∙ reverse-append (take (i + 1) xs) (drop (i + 1) xs) ∙ ap (λ ys. reverse (drop (i + 1) xs) ++ ys) (reverse_more xs i d lt)
 
--- one more message stands before those of two parts
+-- one more message comes before the messages of two parts
 with-append : (by : Option (WrMsg × ℤ)) (newer older : List (WrMsg × ℤ)) → with_mover by (newer ++ older) ≡ with_mover by newer ++ older
 with-append None newer older = refl
 with-append (Some (SLAVE_PRESENT, at)) newer older = refl
@@ -34,7 +34,7 @@ movers_more : (marks : List Mark) (i : ℕ) (d : Mark) → i < length marks →
     movers_of (reverse (take (i + 1) marks)) ≡ with_mover (get_or marks i d).by (movers_of (reverse (take i marks)))
 movers_more marks i d lt = ap movers_of (reverse_more marks i d lt)
 
--- the messages of a history, with that of the mark at i
+-- the messages of a history, with the message of the mark at i
 movers_split : (marks : List Mark) (i : ℕ) (d : Mark) → i < length marks →
     movers_of (reverse marks) ≡ movers_of (reverse (drop (i + 1) marks)) ++ with_mover (get_or marks i d).by (movers_of (reverse (take i marks)))
 movers_split marks i d lt =
@@ -68,7 +68,7 @@ pub All-one : (P : WrMsg × ℤ → Type 0) (marks : List Mark) (i : ℕ) (d : M
     P found → AllByRecursion P (movers_of (reverse (take i marks))) → AllByRecursion P (movers_of (reverse (take (i + 1) marks)))
 All-one P marks i d found lt has p h = subst (AllByRecursion P) (sym (movers_one marks i d found lt has)) (p, h)
 
--- and what holds of all messages holds of that of the mark at i
+-- what holds of all messages holds of the message of the mark at i
 pub All-at : (P : WrMsg × ℤ → Type 0) (marks : List Mark) (i : ℕ) (d : Mark) (found : WrMsg × ℤ) → i < length marks → HasMover (get_or marks i d) found →
     AllByRecursion P (movers_of (reverse marks)) → P found
 All-at P marks i d found lt has h =

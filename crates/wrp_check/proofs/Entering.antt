@@ -11,7 +11,7 @@ use Rattle.wrp_check.specs.Judged.{Lacks}
 use Rattle.wrp_check.specs.Stretches.{Entered}
 use Rattle.wrp_check.proofs.Backwards.{reverse_more}
 
--- where later states were entered, so were those before them
+-- if later states were entered, so were those before them
 pub entered_less : (time : ℤ) (state : LinkState) (states : List LinkState) (marks : List Mark) → Entered time (state ∷ states) marks → Entered time states marks
 entered_less time state [] marks h = tt
 entered_less time state (s ∷ states) [] h = absurd h
@@ -23,7 +23,7 @@ pub entered_more : (time : ℤ) (states : List LinkState) (mark : Mark) (marks :
 entered_more time [] mark marks h = tt
 entered_more time (s ∷ states) mark marks h = inr h
 
--- so many of the states were entered, and no more of them
+-- this many of the states were entered, and no more of them
 pub record EnteredSoFar (time : ℤ) (states : List LinkState) (marks : List Mark) (count : ℕ) : Type 0 where
   pub within : count ≤ length states
   pub entered : Entered time (reverse (take count states)) marks
@@ -87,11 +87,11 @@ missing_is time states marks count h =
           subst P (sym is) (all_entered time states marks count le h)
     ]
 
--- the mark that stands for one past the end
+-- the mark that is used for one past the end
 abbrev pub no_mark : Mark
 no_mark = record { at = pos 0; from = Idle; to = Idle; by = None }
 
--- the mark at i read from behind, and the count by an equation
+-- the mark at i read from the end, and the count by an equation
 pub next_mark : (time : ℤ) (states : List LinkState) (marks : List Mark) (i : ℕ) (d : Mark) (count now : ℕ) →
     now ≡ count → i < length marks → EnteredSoFar time states (get_or marks i d ∷ reverse (take i marks)) count →
     EnteredSoFar time states (reverse (take (i + 1) marks)) now

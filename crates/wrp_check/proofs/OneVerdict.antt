@@ -16,7 +16,7 @@ use Rattle.wrp_check.specs.Stretches.{stretches_of, newest_of, Entered, movers_o
 use Rattle.wrp_check.proofs.Backwards.{All-middle}
 use Rattle.wrp_check.proofs.Entering.{entered_less}
 
--- how two places in one list stand to each other
+-- how two places in one list are related
 data Places {A : Type 0} (front : List A) (x : A) (back : List A) (front' : List A) (y : A) (back' : List A) : Type 0 where
   same : front ≡ front' → x ≡ y → Places front x back front' y back'
   before : (mid : List A) → front' ≡ front ++ x ∷ mid → back ≡ mid ++ y ∷ back' → Places front x back front' y back'
@@ -55,7 +55,7 @@ one_stretch own peer s t h k =
     let P : ℤ → Type 0 = λ time. IsNewestWith time (stretches_of peer) t in
     one_newest h.last.1 (stretches_of peer) s t h.newest (subst P (ap (λ m. m.1) (sym last)) k.newest)
 
--- where states were entered, so were the first of them
+-- if states were entered, so were the first of them
 front_entered : (time : ℤ) (later states : List LinkState) (marks : List Mark) → Entered time (later ++ states) marks → Entered time states marks
 front_entered time [] states marks h = h
 front_entered time (s ∷ later) states marks h = front_entered time later states marks (entered_less time s (later ++ states) marks h)
@@ -67,7 +67,7 @@ lacked time marks state front mid missing h =
     reverse-append front (state ∷ mid) ∙ ap (λ ss. ss ++ reverse front) (reverse-append (state ∷ []) mid) ∙ append_assoc (reverse mid) (state ∷ []) (reverse front) in
     missing (front_entered time (reverse mid) (state ∷ reverse front) marks (subst (λ (ss : List LinkState). Entered time ss marks) turned h))
 
--- the first state that is not there is one, and then they are not all there
+-- the first state that is not there is unique, and then they are not all there
 one_state : (states : List LinkState) (time : ℤ) (marks : List Mark) (s t : LinkState) → Lacks states time marks s → Lacks states time marks t → s ≡ t
 one_state states time marks s t h k =
     elim (places h.before s h.after k.before t k.after (sym h.splits ∙ k.splits)) [
@@ -80,7 +80,7 @@ not_backed : (states : List LinkState) (time : ℤ) (marks : List Mark) (s : Lin
 not_backed states time marks s h k =
     lacked time marks s h.before h.after h.missing (subst (λ (ss : List LinkState). Entered time (reverse ss) marks) h.splits k)
 
--- what the first message lacks is one
+-- what the first message lacks is unique
 one_first : (role : Role) (stretch : List Mark) (movers : List (WrMsg × ℤ)) (s t : LinkState) →
     LacksFirst role stretch movers s → LacksFirst role stretch movers t → s ≡ t
 one_first role stretch movers s t h k =

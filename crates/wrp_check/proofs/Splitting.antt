@@ -5,7 +5,7 @@ use Rattle.std.specs.List.{AllByRecursion, slice_get}
 use Rattle.wrp_base.specs.declared.link.Mark.{Mark}
 use Rattle.wrp_check.specs.Stretches.{stretches_of, BeganBy, LiesIn}
 
--- the oldest mark is the last one, read from behind
+-- the oldest mark is the last one, read from the end
 began_push : (time : ℤ) (first : Mark) (marks : List Mark) → BeganBy time (marks ++ first ∷ []) ↔ (first.at ≤ℤ time)
 began_push time first [] = (λ h. h, λ h. h)
 began_push time first (x ∷ []) = (λ h. h, λ h. h)
@@ -18,7 +18,7 @@ began_by time (x ∷ marks) first e =
     let P : List Mark → Type 0 = λ ms. BeganBy time ms ↔ (first.at ≤ℤ time) in
     subst P (sym (reverse-append (x ∷ []) marks ∙ ap (λ m. reverse marks ++ m ∷ []) same)) (began_push time first (reverse marks))
 
--- the newest stretch of the marks so far is what stands behind start
+-- the newest stretch of the marks so far is what comes after start
 pub record Newest (front so_far : List Mark) : Type 0 where
   pub part : List Mark
   pub splits : so_far ≡ front ++ part

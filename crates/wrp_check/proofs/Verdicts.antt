@@ -28,7 +28,7 @@ last_is own peer stretch newest found is first h =
     let both : h.last ∷ h.others ≡ found ∷ b.others = sym h.movers ∙ ap movers_of is ∙ b.is in
     cc
 
--- nor where the last one lies in no stretch
+-- nor if the last one lies in no stretch
 pub no_stretch : (own peer stretch newest : List Mark) (found : WrMsg × ℤ) → newest_of (stretches_of own) ≡ newest → Some found ≡ slice_get (movers_of newest) 0 →
     AllByRecursion (λ s. LiesIn found.1 s → ⊥) (stretches_of peer) → SentIn own peer stretch → ⊥
 no_stretch own peer stretch newest found is first none h =
@@ -36,7 +36,7 @@ no_stretch own peer stretch newest found is first none h =
     let P : WrMsg × ℤ → Type 0 = λ m. LiesIn m.1 stretch in
     All-middle (λ s. LiesIn found.1 s → ⊥) h.newest.newer stretch h.newest.older (subst (AllByRecursion (λ s. LiesIn found.1 s → ⊥)) h.newest.splits none) (subst P same h.newest.lies)
 
--- nor where another lies outside that stretch
+-- nor if another lies outside that stretch
 pub not_all : (own peer stretch newest with_last : List Mark) (found : WrMsg × ℤ) → newest_of (stretches_of own) ≡ newest → Some found ≡ slice_get (movers_of newest) 0 →
     IsNewestWith found.1 (stretches_of peer) with_last → (AllByRecursion (λ m. LiesIn m.1 with_last) (movers_of newest) → ⊥) → SentIn own peer stretch → ⊥
 not_all own peer stretch newest with_last found is first newest_with not h =

@@ -1,5 +1,5 @@
--- The same handshake at both ends of a link, told from the histories of its two ports, the newest mark
--- first. This project's profile.
+-- The same handshake at both ends of a link, found from the histories of its two ports, the newest mark first. This
+-- project's profile.
 use Rattle.std.specs.Prelude.{◌≡◌, ℤ, List, ◌∷◌, ◌++◌, reverse}
 use Rattle.std.specs.List.{AllByRecursion}
 use Rattle.wrp_base.specs.declared.link.Mark.{Mark}

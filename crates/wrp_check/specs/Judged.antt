@@ -1,5 +1,5 @@
--- How a handshake is judged: which verdict is due for the histories of a link's two ports, the newest
--- mark first. This project's profile.
+-- How a handshake is judged: which verdict is expected for the histories of a link's two ports, the newest mark first.
+-- This project's profile.
 use Rattle.std.specs.Prelude.{◌≡◌, ℤ, List, [], ◌∷◌, ◌++◌, reverse, Result, Ok, Err}
 use Rattle.wrp_base.specs.declared.link.LinkState.{LinkState}
 use Rattle.wrp_base.specs.declared.link.LinkState.TheVariants.{LinkOn}
@@ -17,8 +17,8 @@ abbrev pub LeadsOn : List Mark → Type 0
 LeadsOn [] = ⊥
 LeadsOn (mark ∷ marks) = mark.to ≡ LinkOn
 
--- the first of some states that is not there: those before it were entered in their order, at or before
--- a time, and it was not entered behind them
+-- the first of some states that is missing: those before it were entered in their order, at or before a time, and it
+-- was not entered after them
 pub record Lacks (states : List LinkState) (time : ℤ) (stretch : List Mark) (state : LinkState) : Type 0 where
   pub before : List LinkState
   pub after : List LinkState
@@ -26,8 +26,7 @@ pub record Lacks (states : List LinkState) (time : ℤ) (stretch : List Mark) (s
   pub entered : Entered time (reverse before) stretch
   pub missing : Entered time (state ∷ reverse before) stretch → ⊥
 
--- the first of some messages, the newest first, whose required states are not all there lacks this one
--- of them first
+-- the first of some messages, the newest first, whose required states are not all there lacks this state first
 pub record LacksFirst (role : Role) (stretch : List Mark) (movers : List (WrMsg × ℤ)) (state : LinkState) : Type 0 where
   pub later : List (WrMsg × ℤ)
   pub mover : WrMsg × ℤ
@@ -36,14 +35,13 @@ pub record LacksFirst (role : Role) (stretch : List Mark) (movers : List (WrMsg 
   pub backed : AllBacked role stretch earlier
   pub lacks : Lacks (required_of role mover.0) mover.1 stretch state
 
--- the messages that moved a port in its last stretch were sent in one of the peer's, which lacks this
--- state
+-- the messages that moved a port in its last stretch were sent in one stretch of the peer, which lacks this state
 pub record Misses (role : Role) (own peer : List Mark) (state : LinkState) : Type 0 where
   pub stretch : List Mark
   pub sent : SentIn own peer stretch
   pub first : LacksFirst role stretch (movers_of (newest_of (stretches_of own))) state
 
--- the verdict that is due for a port of this role
+-- the verdict that is expected for a port of this role
 abbrev pub Judges : Role → List Mark → List Mark → Result Unit Verdict → Type 0
 Judges role own peer (Ok _) = LeadsOn own × SameHandshake role own peer
 Judges role own peer (Err NotOn) = LeadsOn own → ⊥

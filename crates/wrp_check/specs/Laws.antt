@@ -28,13 +28,13 @@ abbrev pub EndsInIdle : List Mark → Type 0
 EndsInIdle [] = ⊥
 EndsInIdle (mark ∷ marks) = mark.to ≡ Idle
 
--- parts one after the other, of which the newest alone may not have ended
+-- parts one after the other, of which only the newest may not have ended
 abbrev pub AllEnded : List (List Mark) → Type 0
 AllEnded [] = Unit {0}
 AllEnded (newest ∷ older) = AllByRecursion (λ part. EndsInIdle part) older
 
--- the stretches of a history are its parts outside IDLE: together they are the whole history, and each
--- but the newest ended with the mark to IDLE
+-- the stretches of a history are its parts outside IDLE: together they are the whole history, and each but the newest
+-- ended with the mark to IDLE
 pub record AreParts (marks : List Mark) (parts : List (List Mark)) : Type 0 where
   pub whole : marks ≡ flat_map (λ part. part) parts
   pub outside : AllByRecursion (λ part. IsOutside part) parts

@@ -1,5 +1,5 @@
--- What a message tells of the peer: the states that the peer passed in the same handshake, up to the
--- message that moves this port. This project's profile.
+-- What a message says of the peer: the states that the peer passed in the same handshake, up to the message that moves
+-- this port. This project's profile.
 use Rattle.std.specs.Prelude.{List, [], ◌∷◌}
 use Rattle.wrp_base.specs.declared.link.LinkState.{LinkState}
 use Rattle.wrp_base.specs.declared.link.LinkState.TheVariants.{Present, SLock, MLock, Locked, Calibration, Calibrated, RespCalib, LinkOn}

@@ -61,8 +61,8 @@ Entered time (state ∷ states) (mark ∷ marks) =
     record { is : mark.to ≡ state; by : mark.at ≤ℤ time; others : Entered time states marks }
     ⊎ Entered time (state ∷ states) marks
 
--- the message of a mark, with its sending time, before those of older marks; SLAVE_PRESENT is left out,
--- since that of an earlier stretch may open a master's M_LOCK
+-- the message of a mark, with its sending time, before the messages of older marks; SLAVE_PRESENT is left out, since
+-- the SLAVE_PRESENT of an earlier stretch may open a master's M_LOCK
 abbrev pub with_mover : Option (WrMsg × ℤ) → List (WrMsg × ℤ) → List (WrMsg × ℤ)
 with_mover None movers = movers
 with_mover (Some (SLAVE_PRESENT, at)) movers = movers

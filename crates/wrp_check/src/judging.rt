@@ -50,7 +50,8 @@ fn judgement(own: &[Mark], peer: &[Mark], role: Role) -> Result<(), Verdict>
 /// each of them the peer must have entered there the states that it requires, in their order. Otherwise
 /// the [`Verdict`] says why not.
 pub fn judge(own: &[Mark], peer: &[Mark], role: Role) -> Result<(), Verdict>
-    // Each verdict comes exactly where it is due for the two histories, read from the newest mark.
+    // Each verdict comes if and only if it is the one expected for the two histories, read from the
+    // newest mark.
     ensures { (verdict : Result Unit VerdictOf) →
         (result ≡ verdict) ↔ Judges role (reverse own.now) (reverse peer.now) verdict }
 {

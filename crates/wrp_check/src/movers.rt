@@ -1,4 +1,4 @@
-//! The messages that moved a port in a stretch, but for SLAVE_PRESENT. Slices have the oldest mark first.
+//! The messages that moved a port in a stretch, except SLAVE_PRESENT. Slices have the oldest mark first.
 ghost use Rattle.std.specs.Prelude.{◌≡◌, ◌↔◌, ◌≤ℤ◌, IsTrue, MatchOption, reverse, slice_get};
 ghost use Rattle.wrp_check.specs.Handshake.{AllBacked, AllSentIn};
 ghost use Rattle.wrp_check.specs.Judged.{Lacks, LacksFirst};
@@ -8,7 +8,7 @@ use crate::required::required;
 use crate::stretch::lies_in;
 use wrp_base::{LinkState, Mark, Role, Tau, WrMsg};
 
-// The message of a mark with its sending time, where it is one other than SLAVE_PRESENT.
+// The message of a mark with its sending time, if it is one other than SLAVE_PRESENT.
 fn mover(mark: &Mark) -> Option<(WrMsg, Tau)>
     ensures { MatchOption result (HasNoMover mark.now) (λ found. HasMover mark.now found) }
 {
@@ -52,8 +52,8 @@ fn enters(mark: &Mark, state: LinkState, time: Tau) -> bool
     mark.to == state && mark.at <= time
 }
 
-// The first of these states that was not entered in the stretch behind those before it, at or before a
-// time.
+// The first of these states that was not entered in the stretch after the states before it, at or before
+// a time.
 fn missing(states: &[LinkState], time: Tau, stretch: &[Mark]) -> Option<LinkState>
     ensures { MatchOption result (Entered time (reverse states.now) (reverse stretch.now))
         (λ state. Lacks states.now time (reverse stretch.now) state) }
@@ -67,7 +67,7 @@ fn missing(states: &[LinkState], time: Tau, stretch: &[Mark]) -> Option<LinkStat
     states.get(entered).copied()
 }
 
-// What the first message whose required states are not all there lacks first.
+// The first state that is missing for the first message whose required states are not all there.
 pub(crate) fn first_missing(role: Role, own: &[Mark], stretch: &[Mark]) -> Option<LinkState>
     ensures { MatchOption result (AllBacked role (reverse stretch.now) (movers_of (reverse own.now)))
         (λ state. LacksFirst role (reverse stretch.now) (movers_of (reverse own.now)) state) }

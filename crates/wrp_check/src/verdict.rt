@@ -7,8 +7,9 @@ use wrp_base::LinkState;
 pub enum Verdict {
     /// The last mark of the port's history does not lead to WR_LINK_ON, or it has no mark.
     NotOn,
-    /// No message but SLAVE_PRESENT moved the port in its last stretch, or the last one was sent in no
-    /// stretch of the peer, or another one was not sent in the newest in which the last one was.
+    /// No message except SLAVE_PRESENT moved the port in its last stretch, or the last one was sent in
+    /// no stretch of the peer, or another one was not sent in the newest stretch in which the last one
+    /// was.
     NoStretch,
     /// The peer's stretch lacks a state that a message requires at or before its sending.
     Missing {

@@ -1,5 +1,5 @@
--- In one event a clock in TRACK or HOLDOVER keeps its rate, since its node takes no step; so it does through many, and at such rates
--- local time does not fall.
+-- In one event a clock in TRACK or HOLDOVER keeps its rate, since its node takes no step; the same holds through many
+-- events, and at such rates local time does not fall.
 use Rattle.std.proofs.Common.{◌≡◌, inl, inr, ◌∙◌, refl, ap, sym, subst, ℕ, ◌*◌, ◌<◌, ◌≤◌, max, ℤ, ◌+ℤ◌, ◌-ℤ◌, ◌≤ℤ◌, ◌||◌, unsigned_abs, Bool, true, false, if◌then◌else◌, is_some, List, [], ◌∷◌, ◌++◌, Option, None, Some, arith, lit≤}
 use Rattle.std.specs.Option.{option_map_or}
 use Rattle.std.specs.Prelude.{slice_get}
@@ -36,7 +36,7 @@ use Rattle.wrp_bound_laws.proofs.Sources.HeldCalls.{HoldLaws, OnHold, on_hold}
 use Rattle.wrp_bound_laws.proofs.Sources.Parents.{has_servo, with_servo}
 use Rattle.wrp_clock_laws.specs.Steady.{ClocksRunForward, HoldoverKeepsHeld, IsSteady, IsUpIn, MovesWithin, SteadyKeepsRate, TrackKeepsSlew}
 
--- the laws that this stands on
+-- the laws that this rests on
 pub record ClockLaws : Type 0 where
   pub locked : ChainIsLocked
   pub commands : CommandsAreHeld
@@ -56,7 +56,7 @@ not_track e = let f : false ≡ true = ap is_track e in cc
 not_held : Uninit ≡ Holdover → ⊥
 not_held e = let f : false ≡ true = ap is_holdover e in cc
 
--- where its clock keeps a rate it moves within that, and within any greater one
+-- if its clock keeps a rate it moves within that rate, and within any greater one
 steady_moves : ClockLaws → (s : Setting) (h : Happened) (before : List Happened) (n rate most : ℕ) (link : LinkCfg) → IsRun s (h ∷ before) → link_above s.cfg n ≡ Some link → ((world_after s before).clock n).up ≡ true →
     (is_track (state_of (node_setting_of s n) ((world_after s before).node n)) || is_holdover (state_of (node_setting_of s n) ((world_after s before).node n))) ≡ true →
     rate_of s (world_after s before) n ≡ Some rate → rate ≤ most → MovesWithin most s n before (h ∷ before)

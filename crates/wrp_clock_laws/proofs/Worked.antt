@@ -13,7 +13,7 @@ use lib.Count.{ones, ones_in, ones_step}
 
 -- The tag of a sample
 
--- the ones of a number are those of as many digits as it has
+-- the ones of a number are the ones of as many digits as it has
 none_of : (n : ℕ) → n ≡ 0 → ones n ≡ 0
 unfolding ones ones_in
 none_of n e = ap ones e
@@ -40,7 +40,7 @@ tag_is = ap (λ b. if b then None else Some (tag_of 0 half_ones)) unglitched ∙
 abbrev sampled : Core → ℕ → Option ℕ → Core
 sampled v n tag = cond (hears v) (heard (with_last v n) n (cond (nat_lt v.last n) tag None)) v
 
--- the servo, where this is the tag of both samples
+-- the servo, if this is the tag of both samples
 abbrev reached : Option ℕ → Core
 reached tag =
     sampled (after quick (sampled (run quick (CallCarrier true ∷ CallLease true ∷ CallLink (Some no_deltas) ∷ [])) 1 tag) (CallMeasured two_ahead (pos 0))) 2 tag

@@ -17,7 +17,7 @@ not_true : (b : Bool) → not b ≡ true → b ≡ false
 not_true false e = refl
 not_true true e = cc
 
--- no check fails where each is tried
+-- no check fails if each is tried
 none_fails : (checks : List Check) → list_all (λ check. not check.fails) checks ≡ true → AllHold checks
 none_fails [] h = tt
 none_fails (check ∷ checks) h =

@@ -25,8 +25,9 @@ abbrev pub MovesWithin : ℕ → Setting → ℕ → (earlier later : List Happe
 MovesWithin rate s n earlier later =
     IsSlow (λ w. w.time) rate (λ w. (w.clock n).off) (world_after s earlier) (world_after s later)
 
--- The local time of a node is true time and its offset. It does not fall while the node is up and in TRACK or HOLDOVER: not from the
--- older events to the newest, where the node was so after the older events and after each of the newer ones but the newest
+-- The local time of a node is true time and its offset. It does not fall while the node is up and in TRACK or HOLDOVER:
+-- not from the older events to the newest, if the node was so after the older events and after each of the newer ones
+-- except the newest
 abbrev pub ClocksRunForward : Type 0
 ClocksRunForward =
     (s : Setting) (newest : Happened) (newer older : List Happened) (n : ℕ) → IsRun s (newest ∷ (newer ++ older)) →
@@ -47,7 +48,7 @@ HoldoverKeepsHeld =
     AtEach (IsUpIn Holdover s n) newer older →
     MovesWithin (of_node (λ node. node.held) s n) s n older (newest ∷ (newer ++ older))
 
--- and in one or the other at the greater of both
+-- and in either of them at the greater of both
 abbrev pub SteadyKeepsRate : Type 0
 SteadyKeepsRate =
     (s : Setting) (newest : Happened) (newer older : List Happened) (n : ℕ) → IsRun s (newest ∷ (newer ++ older)) →

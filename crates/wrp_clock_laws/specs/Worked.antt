@@ -1,5 +1,5 @@
--- A servo outside TRACK and HOLDOVER, whose calls are written out: it is in SYNC_NSEC, and commands a step back (this project's
--- profile). So the laws need their states: with that step the node's local time falls.
+-- A servo outside TRACK and HOLDOVER, whose calls are written out: it is in SYNC_NSEC, and commands a step back (this
+-- project's profile). This shows that the laws need their states: with that step the node's local time falls.
 use Rattle.std.specs.Prelude.{◌≡◌, ◌^◌, ℕ, pos, neg_ℤ, true, Some, List, [], ◌∷◌}
 use Rattle.wrp_base.specs.declared.link.Deltas.{Deltas}
 use Rattle.wrp_base.specs.declared.link.ServoState.TheVariants.{SyncNsec}
@@ -58,7 +58,7 @@ in_sync_nsec =
     CallSample 2 0 half_ones ∷ CallMeasured two_ahead (pos 0) ∷ CallSample 1 0 half_ones ∷ CallCarrier true ∷ CallLease true
     ∷ CallLink (Some no_deltas) ∷ []
 
--- in SYNC_NSEC, told that the slave is two periods ahead, the servo commands a step of two periods back
+-- in SYNC_NSEC, given that the slave is two periods ahead, the servo commands a step of two periods back
 pub record StepsBack : Type 0 where
   pub there : (run quick in_sync_nsec).state ≡ SyncNsec
   pub back : (answer_to quick (run quick in_sync_nsec) (CallMeasured two_ahead (pos 0))).cycles ≡ neg_ℤ (pos 2)

@@ -12,8 +12,8 @@ use wrp_servo::{holdover_since, no_step_in_track, track_is_near, track_since};
 
 /// Through a part of a run in which a node stays up and in TRACK or HOLDOVER, its clock never runs backward. Its
 /// offset from true time moves no faster than `slew` in TRACK, than `held` in HOLDOVER, and than the greater of
-/// both where the node goes from one to the other. The event by which the node leaves TRACK or HOLDOVER counts
-/// as a part of it.
+/// both if the node goes from one to the other. The event in which the node leaves TRACK or HOLDOVER counts as a
+/// part of it.
 pub fn clocks_run_forward()
     ensures forward { ClocksRunForward }
     ensures slew { TrackKeepsSlew }
@@ -28,13 +28,14 @@ pub fn clocks_run_forward()
     track_since();
 }
 
-/// The laws need TRACK or HOLDOVER: in a run that is written out, a node that is up and in UNINIT has a local time
-/// that falls.
+/// The laws need TRACK or HOLDOVER: there is a run, written out, in which the local time of a node that is up and
+/// in UNINIT falls.
 pub fn needs_states()
     ensures { RunsBackward }
 {}
 
-/// So it is with steps: a servo in SYNC_NSEC, whose calls are written out, commands a step of two periods back.
+/// The same holds of steps: a servo in SYNC_NSEC, whose calls are written out, commands a step of two periods
+/// back.
 pub fn steps_go_back()
     ensures { StepsBack }
 {}

@@ -1,4 +1,4 @@
--- What the law of one link asks of both ends, which have the counts of the network.
+-- What the law of one link requires of both ends, which have the counts of the network.
 use Rattle.std.proofs.Common.{◌≡◌, inl, inr, refl, sym, subst, ℕ, ◌+◌, ◌-◌, ◌*◌, ◌<◌, ◌≤◌, max, ℤ, Bool, true, false, [], arith}
 use Rattle.wrp_base.specs.declared.link.Role.{Role}
 use Rattle.wrp_bounds.specs.Times.{longest_tick}
@@ -38,11 +38,11 @@ abbrev pub any_order : Beginning → LongestWaits → (still : ℤ) → (rest : 
 any_order l waits still rest longer =
     record { turns = false; slow = (counts_of l).wait * (pace_of l waits).dmax; still = still; rest = rest; longer = longer }
 
--- and of one in which they may not
+-- the form of a law in which they may not
 abbrev pub each_in_turn : (still : ℤ) → (rest : Role → ℕ) → (longer : ℕ) → Form
 each_in_turn still rest longer = record { turns = true; slow = 0; still = still; rest = rest; longer = longer }
 
--- as the carriers come, the quiet time of the network is the rest of both ends
+-- when the carriers come, the quiet time of the network is the rest of both ends
 abbrev pub lit_form : Beginning → Bool → ℕ → Form
 lit_form l turns slow =
     record { turns = turns; slow = slow; still = (world_of l []).time; rest = λ role. (counts_of l).quiet; longer = (counts_of l).quiet }

@@ -43,7 +43,7 @@ pub record AreAwake (l : Beginning) (since : List Happened) (at : ℤ) : Type 0 
   pub idle : (ends_of l since).slave.link.state ≡ Idle
   pub now : at ≡ (world_of l since).time
 
--- so it was at this time, and the slave has not been handed an offer since
+-- the ends were so at this time, and the slave has not been handed an offer since
 abbrev pub IsAwaiting : Beginning → List Happened → ℤ → Type 0
 IsAwaiting l since at = IsOwed (AreAwake l) (HandsOffer l) since at
 

@@ -20,7 +20,7 @@ use Rattle.wrp_bound_laws.proofs.Schedules.ScheduleLinks.{IsNoTickThere, was_ope
 use Rattle.wrp_bound_laws.proofs.Schedules.ScheduleSince.{PortOf, set_at, some_quiet, ticked_told, told_in, told_then}
 use Rattle.wrp_bound_laws.proofs.Schedules.ScheduleTold.{IsAside, KeptIn, aside_kept, told_before, told_kept}
 
--- so many ticks since quiet time ended, where the port is open
+-- this many ticks since quiet time ended, if the port is open
 abbrev pub Counts : PortSetting → ℕ → List PortIn → Type 0
 Counts set c told = is_open (link_told set told) ≡ true → ticks_open set told ≡ c
 
@@ -63,7 +63,7 @@ aside_count set c told (Sent delay seq stamp tick) a h = absurd a
 aside_count set c told (Carrier up own_module) a h = absurd a
 aside_count set c told Reset a h = absurd a
 
--- and by it
+-- and after that tick
 ticks_on : (set : PortSetting) (c : ℕ) (told : List PortIn) (locked certain : Bool) → OpenCount set c told →
     Counts set (c + 1) (PortTick locked certain ∷ told)
 ticks_on set c told locked certain h e =
@@ -80,7 +80,7 @@ CountsAt s q c w = Counts (set_at s q) c (told_in q w)
 abbrev pub OpensAt : Setting → PortOf → WorldAt → Type 0
 OpensAt s q w = is_open (link_told (set_at s q) (told_in q w)) ≡ true
 
--- what it was told before its own tick
+-- what it was given before its own tick
 pub open_then :
     (s : Setting) (q : PortOf) (c : ℕ) (w : WorldAt) → OpensAt s q w → CountsAt s q c w →
     (is_open (link_told (set_at s q) (told_then s q w)) ≡ true) × (ticks_open (set_at s q) (told_then s q w) ≡ c)

@@ -1,4 +1,4 @@
--- A frame of the link that is handed over is after_input by the link.
+-- A frame of the link that is handed over is heard by the link.
 use Rattle.std.proofs.Common.{◌≡◌, inl, inr, ◌∙◌, refl, ap, ap₂, sym, subst, ℕ, ℤ, pos, ◌+ℤ◌, ◌-ℤ◌, ◌≤ℤ◌, not, Bool, true, false, if◌then◌else◌, List, [], ◌∷◌, Option, None, Some, Ok, arith}
 use Rattle.std.specs.List.{AllByRecursion}
 use Rattle.std.specs.Option.{option_map_or}
@@ -184,7 +184,7 @@ nothing_heard laws l since h i f role d none =
       no_tick = λ it. not_ticked i l.link.lower (sym d.event ∙ it.0);
     })
 
--- it is one
+-- it is an input of the link
 
 may_hear :
     (life dmin : ℕ) (time : ℤ) (q peer : Port) (input : LinkIn) (f : FrameAt) (role : Role) → link_input role f.sending.message.body ≡ Some input →

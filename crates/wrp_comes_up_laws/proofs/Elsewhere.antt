@@ -1,4 +1,4 @@
--- Inputs that are not to the ports of a link leave both its ports as they are.
+-- Inputs that are not given to the ports of a link leave both its ports as they are.
 use Rattle.std.proofs.Common.{◌≡◌, inl, inr, ◌∙◌, refl, ap, sym, ℕ, ℤ, Bool, true, false, if◌then◌else◌, List, [], ◌∷◌, ◌++◌, flat_map, Option, None, Some, Result}
 use Rattle.std.proofs.lemmas.Bool.{and_parts}
 use Rattle.std.proofs.lemmas.Bool.Decides.{eqb_tells}
@@ -37,7 +37,7 @@ use Rattle.wrp_comes_up_laws.proofs.Grounds.{Laws}
 
 -- One input
 
--- an input that is nothing to the link of the port of this number
+-- an input that has no effect on the link of the port of this number
 abbrev pub PassesPort : ℕ → Input → Type 0
 PassesPort p (Frame q octets raw sample) = p ≡ q → ⊥
 PassesPort p (Carrier q up own_module) = p ≡ q → ⊥
@@ -45,7 +45,7 @@ PassesPort p (Sample number base bits) = Unit {0}
 PassesPort p (Sent q seq delay stamp) = Unit {0}
 PassesPort p _ = ⊥
 
--- an input that is nothing to the links of both ports of a link
+-- an input that has no effect on the links of both ports of a link
 abbrev pub IsElsewhere : LinkCfg → Given → Type 0
 IsElsewhere link g = (r : Role) → (end_of r link).node ≡ g.to → PassesPort (end_of r link).port g.input
 
@@ -59,7 +59,7 @@ no_news fixed n says (Sent q seq delay stamp) p h = refl
 no_news fixed n says Tick p h = absurd h
 no_news fixed n says Reset p h = absurd h
 
--- the port at an end of a link, where the input is nothing to it
+-- the port at an end of a link, if the input has no effect on it
 pub one_nothing :
     Laws → (s : Setting) (y : ℤ) (v : WorldAt) (g : Given) (k : ℕ) (link : LinkCfg) (r : Role) → link_of s k ≡ Some link →
     ((end_of r link).node ≡ g.to → news_at (node_setting_of s g.to) (v.node g.to) g.input g.says (end_of r link).port ≡ Nothing) →
@@ -190,7 +190,7 @@ moved_port s w e k r link h =
     port_is (port_at s (moved s w e) k r (end_of r link)) (port_at s w k r (end_of r link))
     refl (moved_ticked s w e (end_of r link).node ∙ h) (moved_marks s w e k r) (ap link_sent (moved_sent s w e k r))
 
--- a port at an end of a link, over an event that is nothing to it
+-- a port at an end of a link, over an event that has no effect on it
 pub same_port :
     Laws → (s : Setting) (says : Result PtpMsg FrameFault) (y : ℤ) (w : WorldAt) (e : Event) (k : ℕ) (link : LinkCfg) (r : Role) → link_of s k ≡ Some link →
     ticked_after w e (end_of r link).node ≡ (w.clock (end_of r link).node).ticked → AllByRecursion (IsElsewhere link) (given_by s w (moved s w e) says e) →

@@ -68,7 +68,7 @@ as_came e says y = record { event = e; says = says; answer = y }
 pub run_before : (s : Setting) (h : Happened) (before : List Happened) → IsRun s (h ∷ before) → IsRun s before
 run_before s h before run = record { network = run.network; each = run.each.1; accepted = run.accepted.1 }
 
--- An event that is nothing to the link
+-- An event that has no effect on the link
 
 no_change :
     Laws → (l : Beginning) (since : List Happened) (h : Happened) → link_of l.s l.k ≡ Some l.link → SameTime l since h →
@@ -80,7 +80,7 @@ no_change laws l since h is time ticks all =
     (same_port laws l.s h.says h.answer (world_of l since) h.event l.k l.link Master is (ticks Master) all)
     (same_port laws l.s h.says h.answer (world_of l since) h.event l.k l.link Slave is (ticks Slave) all)
 
--- time is as it was, where the event does not change it
+-- time is as it was, if the event does not change it
 step_time :
     (l : Beginning) (since : List Happened) (h : Happened) → (moved l.s (world_of l since) h.event).time ≡ (world_of l since).time → SameTime l since h
 step_time l since h e =
@@ -97,7 +97,7 @@ sees_nothing laws l since h is plain time ticks all = record {
   tells = nothing_seen l since h (no_change laws l since h is (step_time l since h time) ticks all) (plain_silent l since h.event plain);
 }
 
--- the inputs by which a node is told of its own sample or sending
+-- the inputs that give a node its own sample or sending
 abbrev IsOwn : Input → Type 0
 IsOwn (SampleInput number base bits) = Unit {0}
 IsOwn (Sent p seq delay stamp) = Unit {0}

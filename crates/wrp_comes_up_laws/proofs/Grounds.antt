@@ -1,4 +1,4 @@
--- The laws that those of this crate stand on.
+-- The laws that the laws of this crate rest on.
 use Rattle.wrp_config.specs.Laws.{ChildIsDeeper}
 use Rattle.wrp_handshake_laws.specs.Laws.{SlaveOnWithItsMaster}
 use Rattle.wrp_node.specs.LinkNews.{StepGivesLinks}

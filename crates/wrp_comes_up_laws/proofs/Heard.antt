@@ -1,4 +1,4 @@
--- What a port makes of a frame of its peer: its link hears it, which is nothing to it in quiet time.
+-- What a port does with a frame of its peer: its link hears it; in quiet time this has no effect.
 use Rattle.std.proofs.Common.{◌≡◌, ◌⊎◌, inl, inr, ◌∙◌, refl, ap, ap₂, sym, subst, ℕ, ◌==◌, ◌&&◌, ℤ, Bool, true, false, if◌then◌else◌, is_some, [], ◌∷◌, Option, None, Some, Ok, unsigned_abs, ◌||◌}
 use Rattle.std.proofs.lemmas.Bool.{false≢true, true≢false}
 use Rattle.std.proofs.lemmas.Option.{none-some, same_Some}
@@ -181,7 +181,7 @@ domain_at s net r link = ap (λ (x : NodeSet). x.own.domain) (net.set (end_of r 
 target_of : (set : PortSetting) (body : Body) (target : PortIdentity) (m : Option WrMsg) → IsToPeer set body → body ≡ Signal target m → target ≡ set.ds.peer
 target_of set body target m h e = let it : IsToPeer set (Signal target m) = subst (IsToPeer set) e h in it
 
--- a frame of the other end is dropped early in quiet time alone
+-- a frame of the other end is dropped early only in quiet time
 frame_early :
     EndsAreSet → (s : Setting) → IsNetwork s → (k : ℕ) (r : Role) (link : LinkCfg) (l : LinkAt) (m : PtpMsg) (input : LinkIn) → link_of s k ≡ Some link →
     IsOfPort (set_at s (other_of r) link) m → link_input (set_at s r link).ds.role m.body ≡ Some input →

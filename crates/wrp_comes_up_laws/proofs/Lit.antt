@@ -1,4 +1,4 @@
--- As the carriers of a link come, its two ports are as those of one link by itself are.
+-- When the carriers of a link come, its two ports are as those of one link by itself are.
 use Rattle.std.proofs.Common.{◌≡◌, ◌⊎◌, inl, inr, ◌∙◌, refl, ap, ap₂, sym, subst, ℕ, ◌==◌, ℤ, pos, Bool, true, false, if◌then◌else◌, List, [], ◌∷◌, ◌++◌, flat_map, Option, None, Some, Result}
 use Rattle.std.specs.Option.{option_map_or}
 use Rattle.std.proofs.lemmas.Bool.Decides.{eqb_tells}
@@ -62,7 +62,7 @@ abbrev pub AllFree : List Change → Type 0
 AllFree [] = Unit {0}
 AllFree (change ∷ older) = IsFree change × AllFree older
 
--- no port has its carrier, or the carriers came by the newest change, with these modules
+-- no port has its carrier, or the carriers came in the newest change, with these modules
 abbrev IsDarkOrLit : BothPorts → Option Module → Option Module → List Change → Type 0
 IsDarkOrLit ends m n changes =
     ((ends.master.link.carrier ≡ false) × (ends.slave.link.carrier ≡ false)) ⊎ ((older : List Change) × (changes ≡ Lights m n ∷ older))
@@ -195,7 +195,7 @@ came_ports laws s net y v n k link first (p ∷ ps) x is c =
 
 -- A node of the link that comes up
 
--- to begin anew is nothing to a port without a carrier
+-- beginning again has no effect on a port without a carrier
 begins_dark : (time : ℤ) (q : Port) (at : ℤ) → IsDark q.link → q.link.carrier ≡ false → port_by_news time q at Renewed ≡ q
 begins_dark time q at dark e =
     let new : q.link ≡ new_link q.link.role q.link.set = dark e in
@@ -290,7 +290,7 @@ joining s w j ms sm k link m o dark = record {
   which = inl (dark Master, dark Slave);
 }
 
--- The event by which they come
+-- The event in which they come
 
 -- the link as its carriers came
 pub record Came (l : Beginning) (w : WorldAt) : Type 0 where
@@ -323,7 +323,7 @@ came_by l w v gs e lit c =
           }
     ]
 
--- no carrier comes by any other event
+-- no carrier comes in any other event
 abbrev pub LightsNothing : Event → Type 0
 LightsNothing (Up n off swaps) = ⊥
 LightsNothing (Join j ms sm) = ⊥
@@ -345,11 +345,11 @@ was_lit s w (Noise n p octets raw) k none c = c
 not_lit : (l : Beginning) (w : WorldAt) (e : Event) → LightsNothing e → has_carrier l.s (moved l.s w e) l.k ≡ true → has_carrier l.s w l.k ≡ false → Came l w
 not_lit l w e none c dark = absurd (not_both (has_carrier l.s w l.k) (was_lit l.s w e l.k none c) dark)
 
--- the link by which an event lights it
+-- the link that an event lights
 abbrev lighting : Setting → ℕ → LinkCfg → Event → Result PtpMsg FrameFault → ℤ → List Happened → Beginning
 lighting s k link e says y before = record { s = s; k = k; link = link; event = as_came e says y; before = before }
 
--- what the event made by itself had the carrier too
+-- the link also had the carrier in the world that the event made by itself
 carried : (s : Setting) (says : Result PtpMsg FrameFault) (y : ℤ) (w : WorldAt) (e : Event) (k : ℕ) →
     has_carrier s (world_step s says y w e) k ≡ true → has_carrier s (moved s w e) k ≡ true
 carried s says y w e k c = sym (all_given_carrier s y (given_by s w (moved s w e) says e) (moved s w e) k) ∙ c

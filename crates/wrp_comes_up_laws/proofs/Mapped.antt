@@ -41,7 +41,7 @@ use Rattle.wrp_comes_up_laws.proofs.Offers.{due_open, line_now, master_of, offer
 use Rattle.wrp_comes_up_laws.proofs.Owed.{OffersAwake, awaited_next, heard_next, in_turn, locked_next, steady}
 use Rattle.wrp_comes_up_laws.proofs.Seen.{Seen, dmin_of, life_of, none_seen, port_is_at}
 
--- a frame with an offer is of before both ends rest, or the master is awake
+-- a frame with an offer was put out before both ends rest, or the master is awake
 abbrev pub HasOffered : Beginning → (still : ℤ) → List Happened → Sending → Type 0
 HasOffered l still since x = (x.at ≤ℤ still) ⊎ IsAwake (ends_of l since).master
 
@@ -49,7 +49,7 @@ abbrev pub AllOffered : Beginning → (still : ℤ) → List Happened → Type 0
 AllOffered l still since =
     (x : Sending) → WasPutOut x ((world_of l since).end_at l.k Master).sent → offers_in x.message.body ≡ true → HasOffered l still since x
 
--- the changes of the link by the events since the carriers came, over the ends as they came
+-- the changes of the link from the events since the carriers came, over the ends as they came
 pub record Mapped (waits : LongestWaits) (l : Beginning) (form : Form) (first : BothPorts) (since : List Happened) : Type 0 where
   pub changes : List Change
   pub ends : ends_after first changes ≡ ends_of l since
@@ -101,7 +101,7 @@ too_old now at lit life a b c = omega (arith, ints, a, b, c)
 past_by : (at ticked time : ℤ) (n : ℕ) → ticked ≤ℤ time → at ≡ time → ticked ≤ℤ (at +ℤ pos n)
 past_by at ticked time n h e = omega (arith, ints, h, e)
 
--- what is known as an event comes
+-- what is known when an event comes
 pub record Comes (waits : LongestWaits) (l : Beginning) (since : List Happened) (h : Happened) : Type 0 where
   pub is : link_of l.s l.k ≡ Some l.link
   pub wr : l.link.wr ≡ true
@@ -173,7 +173,7 @@ comes_next laws waits l since h c stays old at (inl awake) =
 comes_next laws waits l since h c stays old at (inr it) =
     offer_comes laws l since h.says h.answer h.event at c.run c.is c.wr c.was.carried (c.on Master) stays it.1 (old at it.0)
 
--- An event that is nothing to the link, or a change
+-- An event that has no effect on the link, or is a change
 
 mapped_by :
     Laws → (waits : LongestWaits) (l : Beginning) (form : Form) (first : BothPorts) (since : List Happened) (h : Happened) (seen : Option Change) →
@@ -267,7 +267,7 @@ newest : (P : List Happened → Type 0) (since : List Happened) → Throughout P
 newest P [] all = all
 newest P (h ∷ since) all = all.0
 
--- what was put out was so in the past
+-- what was put out was put out in the past
 pub put_past :
     Laws → (s : Setting) (events : List Happened) (k : ℕ) (r : Role) (x : Sending) → IsRun s events → WasPutOut x ((world_after s events).end_at k r).sent →
     x.at ≤ℤ (world_after s events).time

@@ -66,7 +66,7 @@ open_by true Idle quiet e (inl out) = absurd (out refl)
 open_by true Idle quiet e (inr over) = ap (λ (b : Bool). is_open_word (if b then Ptp else Quiet)) (ap (λ n. n == 0) over)
 open_by true _ quiet e which = refl
 
--- a port is awake exactly where it is open
+-- a port is awake if and only if it is open
 pub open_awake : (q : Port) → is_open q.link ≡ true → IsAwake q
 open_awake q e = let it : (q.link.carrier ≡ true) × ((q.link.state ≡ Idle → ⊥) ⊎ (q.link.quiet ≡ 0)) =
     awake_by q.link.carrier q.link.state q.link.quiet e in record { lit = it.0; over = it.1 }
@@ -81,7 +81,7 @@ abbrev pub line_now : NodeSetting → NodeAt → ℕ → Rest
 line_now fixed n p =
     ticked (setting_of fixed.set p) (line_at fixed.set (servo_ticked fixed n).node p) (locked_of fixed (servo_ticked fixed n).node)
 
--- an offer is sent at a tick alone, where an Announce is due
+-- an offer is sent only at a tick at which an Announce is due
 abbrev pub MayOffer : NodeSetting → NodeAt → ℕ → Input → Type 0
 MayOffer fixed n p TickInput = announces_on (line_now fixed n p) ≡ true
 MayOffer fixed n p _ = ⊥
@@ -124,7 +124,7 @@ no_offer : (s : Setting) (v : WorldAt) (n p : ℕ) (input : Input) → IsNoTick 
 no_offer s v n p TickInput h m = absurd h
 no_offer s v n p _ h m = m
 
--- it is new by a tick of the master's node, at which an Announce is due
+-- it is new in a tick of the master's node, at which an Announce is due
 pub offer_in :
     (s : Setting) (says : Result PtpMsg FrameFault) (y : ℤ) (w : WorldAt) (e : Event) (k : ℕ) (link : LinkCfg) (x : Sending) →
     link_of s k ≡ Some link → offers_in x.message.body ≡ true →
@@ -152,7 +152,7 @@ offer_in s says y w e k link x is offer put = elim (tick_or_not link.upper e) [
       (no_tick_to link.upper e other) put)
 ]
 
--- the port is open once it ticked, where its line is
+-- the port is open after the tick if and only if its line is
 pub open_now :
     Laws → (s : Setting) (says : Result PtpMsg FrameFault) (y : ℤ) (w : WorldAt) (k : ℕ) (link : LinkCfg) →
     is_open (port_at s (world_step s says y w (Tick link.upper)) k Master (end_of Master link)).link
@@ -165,7 +165,7 @@ open_now laws s says y w k link =
     ∙ ap is_open (laws.links fixed (taken_of y (given_plain n TickInput)) (w.node n) p)
     ∙ ap (λ (l : LinkAt). is_open (after l (link_in.Tick (locked_of fixed (servo_ticked fixed (w.node n)).node)))) (sym (before_ports fixed (w.node n) p))
 
--- and so it is where an Announce is due
+-- its line is open if an Announce is due
 pub due_open : (line : Rest) → announces_on line ≡ true → is_open line.link ≡ true
 due_open line due = (and_parts (is_open line.link) (line.turns.announce == 0) due).0
 
@@ -243,7 +243,7 @@ offer_put laws s net says y w k link is wr due =
 abbrev pub master_of : LinkCfg → PortOf
 master_of link = record { node = link.upper; port = link.upper_port }
 
--- it is due once so many ticks have passed
+-- it is due after this many ticks
 pub is_due_now :
     (s : Setting) (c : ℕ) (w : WorldAt) (link : LinkCfg) → OpensAt s (master_of link) w → CountsAt s (master_of link) c w →
     is_open (line_now (node_setting_of s link.upper) (w.node link.upper) link.upper_port).link ≡ true →

@@ -46,7 +46,7 @@ steady l since h (Hears role input at) s awake = (
 steady l since h (Starts role) s awake = absurd s.calm
 steady l since h (Lights of_master of_slave) s awake = absurd s.calm
 
--- no CALIBRATED overtakes a CALIBRATE by it
+-- in it no CALIBRATED overtakes a CALIBRATE
 pub in_turn :
     (l : Beginning) (first : BothPorts) (since : List Happened) (h : Happened) (changes : List Change) (c : Change) → Seen l since h (Some c) →
     ((role : Role) (m : WrMsg) (at : ℤ) → alone.IsUnheard first role m changes at → IsUnheard l role m since at) → InTurn l (h ∷ since) →

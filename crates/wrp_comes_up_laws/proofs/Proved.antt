@@ -89,7 +89,7 @@ wr_at : (s : Setting) (r : Role) (link : LinkCfg) → (ds_at s.cfg r link).wr �
 wr_at s Master link = refl
 wr_at s Slave link = refl
 
--- and are those of the network
+-- and are the counts of the network
 pub set_is : Laws → (s : Setting) → IsNetwork s → (k : ℕ) (r : Role) (link : LinkCfg) → link_of s k ≡ Some link → link.wr ≡ true →
     (set_at s r link).link ≡ link_set_of s.cfg
 set_is laws s net k r link is wr =

@@ -28,7 +28,7 @@ abbrev pub SeenMay : (life dmin : ℕ) → BothPorts → Option Change → Type 
 SeenMay life dmin ends None = Unit {0}
 SeenMay life dmin ends (Some change) = MayCome life dmin ends change
 
--- a change by which no carrier comes or goes, and no node starts
+-- a change in which no carrier comes or goes, and no node starts
 abbrev pub IsCalm : Option Change → Type 0
 IsCalm None = Unit {0}
 IsCalm (Some (Passes dt)) = Unit {0}
@@ -46,7 +46,7 @@ life_of l = frame_life l.s.cfg
 abbrev pub dmin_of : Beginning → ℕ
 dmin_of l = shortest_tick l.s.cfg
 
--- what an event is to the link, and what is told by it
+-- what an event is to the link, and what follows from it
 pub record Seen (l : Beginning) (since : List Happened) (h : Happened) (seen : Option Change) : Type 0 where
   pub is : ends_of l (h ∷ since) ≡ seen_by (ends_of l since) seen
   pub may : SeenMay (life_of l) (dmin_of l) (ends_of l since) seen
@@ -58,7 +58,7 @@ pub record Seen (l : Beginning) (since : List Happened) (h : Happened) (seen : O
   pub offer : (suffix : Option ℕ) (at : ℤ) → offers suffix ≡ true → seen ≡ Some (Hears Slave (Announce suffix) at) → HandsOffer l since h.event
   pub message : (role : Role) (m : WrMsg) (at : ℤ) → seen ≡ Some (Hears role (Msg m) at) → HandsMessage l role m at since h.event
 
--- both ends, of which one after_input an input
+-- both ends, of which one heard an input
 
 pub ends_are : (a b : BothPorts) → a.time ≡ b.time → a.master ≡ b.master → a.slave ≡ b.slave → a ≡ b
 ends_are a b t m s = λ i. record { time = t i; master = m i; slave = s i }
@@ -90,7 +90,7 @@ pub ends_stay :
 ends_stay l since h Master t a b = ends_are (ends_of l (h ∷ since)) (ends_of l since) t a b
 ends_stay l since h Slave t a b = ends_are (ends_of l (h ∷ since)) (ends_of l since) t b a
 
--- An event that is nothing to the link
+-- An event that has no effect on the link
 
 -- it hands nothing over, and is no tick of the slave's node
 pub record IsSilent (l : Beginning) (since : List Happened) (e : Event) : Type 0 where

@@ -33,7 +33,7 @@ abbrev pub IsToPeer : PortSetting → Body → Type 0
 IsToPeer set (Signal target message) = target ≡ set.ds.peer
 IsToPeer set _ = Unit {0}
 
--- a message of a port that is set so
+-- a message of a port that is set like this
 pub record IsOfPort (set : PortSetting) (m : PtpMsg) : Type 0 where
   pub domain : m.head.domain ≡ set.own.domain
   pub source : m.head.source ≡ set.ds.own

@@ -41,7 +41,7 @@ pace_of l waits =
 abbrev pub counts_of : Beginning → LinkSet
 counts_of l = link_set_of l.s.cfg
 
--- more than so long a time passed since the carriers came
+-- more than this time passed since the carriers came
 abbrev pub IsPast : Beginning → List Happened → ℕ → Type 0
 IsPast l since time = ((world_of l []).time +ℤ pos time) <ℤ (world_of l since).time
 
@@ -50,8 +50,8 @@ pub record IsUp (l : Beginning) (since : List Happened) : Type 0 where
   pub master : state_at l.s (world_of l since) l.link.upper l.link.upper_port ≡ LinkOn
   pub slave : state_at l.s (world_of l since) l.link.lower l.link.lower_port ≡ LinkOn
 
--- a link that is served well is up once more than the stated time passed, and so after each later event while
--- this lasts
+-- a link that is served well is up once more than the stated time passed, and after each later event for as long as it
+-- is served well
 abbrev pub ComesUp : Type 0
 ComesUp =
     (l : Beginning) (since : List Happened) (waits : LongestWaits) →
@@ -61,7 +61,7 @@ ComesUp =
     IsPast l since (time_to_up (pace_of l waits) (counts_of l) (counts_of l)) →
     IsUp l since
 
--- where no CALIBRATED overtakes a CALIBRATE it is up sooner, and needs no retries
+-- if no CALIBRATED overtakes a CALIBRATE it is up sooner, and needs no retries
 abbrev pub ComesUpInTurn : Type 0
 ComesUpInTurn =
     (l : Beginning) (since : List Happened) (waits : LongestWaits) →

@@ -15,7 +15,7 @@ use Rattle.wrp_course.specs.WorldAt.{Sending}
 use Rattle.wrp_comes_up_laws.specs.Laws.{IsUp, counts_of, pace_of}
 use Rattle.wrp_comes_up_laws.specs.Served.{Beginning, InTurn, IsServed, LongestWaits, Throughout, ends_of, events_of, offers_in, world_of}
 
--- how both ends rest: since this time, and for so many ticks each
+-- how both ends rest: since this time, and for this many ticks each
 pub record Rests : Type 0 where
   pub still : ℤ
   pub rest : Role → ℕ
@@ -41,12 +41,12 @@ pub record IsAtRest (l : Beginning) (rests : Rests) : Type 0 where
 abbrev pub longer_of : Rests → ℕ
 longer_of rests = max (rests.rest Master) (rests.rest Slave)
 
--- more than so long a time passed since both ends rest
+-- more than this time passed since both ends rest
 abbrev pub IsPastRest : Beginning → Rests → List Happened → ℕ → Type 0
 IsPastRest l rests since time = (rests.still +ℤ pos time) <ℤ (world_of l since).time
 
--- a link that is served well from rest on is up once more than the stated time passed, and so after each later event while
--- this lasts
+-- a link that is served well from rest on is up once more than the stated time passed, and after each later event for
+-- as long as it is served well
 abbrev pub ComesUpFromRest : Type 0
 ComesUpFromRest =
     (l : Beginning) (rests : Rests) (since : List Happened) (waits : LongestWaits) →
@@ -56,7 +56,7 @@ ComesUpFromRest =
     IsPastRest l rests since (time_from_rest (pace_of l waits) (longer_of rests) (counts_of l) (counts_of l)) →
     IsUp l since
 
--- where no CALIBRATED overtakes a CALIBRATE it is up sooner, and needs no retries
+-- if no CALIBRATED overtakes a CALIBRATE it is up sooner, and needs no retries
 abbrev pub ComesUpFromRestInTurn : Type 0
 ComesUpFromRestInTurn =
     (l : Beginning) (rests : Rests) (since : List Happened) (waits : LongestWaits) →

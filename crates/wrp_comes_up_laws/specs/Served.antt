@@ -22,7 +22,7 @@ use Rattle.wrp_course.specs.Runs.{WasPutOut}
 use Rattle.wrp_course.specs.Setting.{Setting, node_setting_of}
 use Rattle.wrp_course.specs.WorldAt.{FrameAt, Sending, WorldAt, has_carrier}
 
--- a link of a network, the event from which on it is looked at, by which its carriers came or after which both its ends
+-- a link of a network, the event from which it is followed, in which its carriers came or after which both its ends
 -- rest, and all events before that one, the newest first
 pub record Beginning : Type 0 where
   pub s : Setting
@@ -31,7 +31,7 @@ pub record Beginning : Type 0 where
   pub event : Happened
   pub before : List Happened
 
--- all events, with those since, the newest first
+-- all events, with the events since, the newest first
 abbrev pub events_of : Beginning → List Happened → List Happened
 events_of l since = since ++ l.event ∷ l.before
 
@@ -42,13 +42,13 @@ world_of l since = world_after l.s (events_of l since)
 abbrev pub ends_of : Beginning → List Happened → BothPorts
 ends_of l since = ends_at l.s (world_of l since) l.k l.link
 
--- so it was then, and after each event since
+-- this held then, and after each event since
 abbrev pub Throughout : (List Happened → Type 0) → List Happened → Type 0
 Throughout Holds [] = Holds []
 Throughout Holds (h ∷ since) = Holds (h ∷ since) × Throughout Holds since
 
--- a thing has been owed since a time: it came due then, by an event since the beginning, and no event after that
--- one has met it
+-- a thing has been owed since a time: it came due then, in an event since the beginning, and no event after that one
+-- has met it
 abbrev pub IsOwed : (List Happened → ℤ → Type 0) → (List Happened → Event → Type 0) → List Happened → ℤ → Type 0
 IsOwed Begins Meets [] at = ⊥
 IsOwed Begins Meets (h ∷ since) at = Begins (h ∷ since) at ⊎ (IsOwed Begins Meets since at × (Meets since h.event → ⊥))
@@ -76,8 +76,8 @@ abbrev pub HandsMessage : Beginning → Role → WrMsg → ℤ → List Happened
 HandsMessage l role m at since event =
     (it : Hands l role since event) × (in_body it.frame.sending.message.body it.frame.sending.at ≡ Some (m, at))
 
--- the other end put out a message at this time, since the beginning, and the end of this role has not been
--- handed it since; once is enough, and messages of before are never owed
+-- the other end put out a message at this time, since the beginning, and the end of this role has not been handed it
+-- since; once is enough, and messages from before the beginning are never owed
 abbrev pub IsUnheard : Beginning → Role → WrMsg → List Happened → ℤ → Type 0
 IsUnheard l role m since at = IsOwed (PutsOut l (other_of role) m) (HandsMessage l role m at) since at
 
@@ -88,7 +88,7 @@ abbrev pub offers_in : Body → Bool
 offers_in (Announce origin utc p1 quality p2 gm steps source suffix) = offers suffix
 offers_in _ = false
 
--- the master put out a frame with one, at this time, in the newest event
+-- the master put out a frame with an offer, at this time, in the newest event
 pub record PutsOffer (l : Beginning) (since : List Happened) (at : ℤ) : Type 0 where
   pub frame : Sending
   pub put : WasPutOut frame ((world_of l since).end_at l.k Master).sent
@@ -96,7 +96,7 @@ pub record PutsOffer (l : Beginning) (since : List Happened) (at : ℤ) : Type 0
   pub offers : offers_in frame.message.body ≡ true
   pub time : frame.at ≡ at
 
--- an event hands the slave a frame with one
+-- an event hands the slave a frame with an offer
 abbrev pub HandsOffer : Beginning → List Happened → Event → Type 0
 HandsOffer l since event = (it : Hands l Slave since event) × (offers_in it.frame.sending.message.body ≡ true)
 
@@ -106,7 +106,7 @@ IsOfferUnheard l since at = IsOwed (PutsOffer l) (HandsOffer l) since at
 
 -- The lock detector
 
--- the slave's node ticks with its lock detector locked, once its servo was told of the tick
+-- the slave's node ticks with its lock detector locked, once its servo was given the tick
 abbrev pub TicksLocked : Beginning → List Happened → Event → Type 0
 TicksLocked l since event =
     (event ≡ Tick l.link.lower)
@@ -117,7 +117,7 @@ pub record IsLocking (l : Beginning) (since : List Happened) (at : ℤ) : Type 0
   pub locking : (ends_of l since).slave.link.state ≡ SLock
   pub now : at ≡ (world_of l since).time
 
--- so it was at this time, and its node has not ticked with its lock detector locked since
+-- the slave was in S_LOCK at this time, and its node has not ticked with its lock detector locked since
 abbrev pub IsUnlocked : Beginning → List Happened → ℤ → Type 0
 IsUnlocked l since at = IsOwed (IsLocking l) (TicksLocked l) since at
 
@@ -137,8 +137,8 @@ pub record IsServed (waits : LongestWaits) (l : Beginning) (since : List Happene
   pub offered : (at : ℤ) → IsOfferUnheard l since at → (world_of l since).time ≤ℤ (at +ℤ pos waits.delay)
   pub locks : (at : ℤ) → IsUnlocked l since at → (world_of l since).time ≤ℤ (at +ℤ pos waits.lock)
 
--- no CALIBRATED overtakes a CALIBRATE: an end is handed one only once it was handed each CALIBRATE that its peer
--- put out earlier or at the same time
+-- no CALIBRATED overtakes a CALIBRATE: an end is handed a CALIBRATED only after it was handed each CALIBRATE that its
+-- peer put out earlier or at the same time
 abbrev pub InTurn : Beginning → List Happened → Type 0
 InTurn l [] = Unit {0}
 InTurn l (h ∷ since) =

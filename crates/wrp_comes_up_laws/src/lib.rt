@@ -32,7 +32,7 @@ pub fn link_comes_up()
     comes_up();
 }
 
-/// The same where no CALIBRATED overtakes a CALIBRATE: the link is up sooner, and needs no retries.
+/// The same if no CALIBRATED overtakes a CALIBRATE: the link is up sooner, and needs no retries.
 pub fn link_comes_up_in_turn()
     ensures { ComesUpInTurn }
 {
@@ -65,7 +65,7 @@ pub fn link_comes_up_from_rest()
     comes_up_from_rest();
 }
 
-/// The same where no CALIBRATED overtakes a CALIBRATE.
+/// The same if no CALIBRATED overtakes a CALIBRATE.
 pub fn link_comes_up_from_rest_in_turn()
     ensures { ComesUpFromRestInTurn }
 {
@@ -82,7 +82,7 @@ pub fn link_comes_up_from_rest_in_turn()
 }
 
 /// Both times in the counts of the network file: `(quiet + 2 * wait + 2 + announce) * dmax + 7 * delay + lock`,
-/// and `2 * wait * dmax` less where no CALIBRATED overtakes a CALIBRATE.
+/// and `2 * wait * dmax` less if no CALIBRATED overtakes a CALIBRATE.
 pub fn times_in_counts()
     ensures { TimesInCounts }
 {}

@@ -9,7 +9,7 @@ use Rattle.wrp_base.proofs.Lists.{first_passed, length_map}
 use Rattle.wrp_caldb.specs.Name.{same_name}
 use Rattle.wrp_config.specs.Accepted.{HasNoRepeat, greatest}
 
--- what stands in a list that is made of another
+-- what is in a list that is made of another
 pub record IsMadeOf {X Y : Type 0} (f : X → Y) (xs : List X) (n : ℕ) (y : Y) : Type 0 where
   pub x : X
   pub at : slice_get xs n ≡ Some x
@@ -31,7 +31,7 @@ abbrev pub IsApart : {X : Type 0} → List X → Type 0
 IsApart {X} xs =
     (i j : ℕ) (x y : X) → i < j → slice_get xs i ≡ Some x → slice_get xs j ≡ Some y → x ≢ y
 
--- so no element stands twice
+-- so no element is there twice
 pub apart_once : {X : Type 0} (xs : List X) → IsApart xs → HasNoRepeat xs
 apart_once xs apart i j x ei ej =
     elim (cases_lt i j) [
@@ -68,7 +68,7 @@ none_before p (suc n) (y ∷ ys) none zero x h e =
 none_before p (suc n) (y ∷ ys) none (suc i) x h e =
     none_before p n ys (or_parts (p y) (list_any p (take n ys)) none).1 i x (omega (arith, h)) e
 
--- what stands at the first place that passes
+-- what is at the first place that passes
 pub record IsFoundAt {X : Type 0} (p : X → Bool) (xs : List X) (n : ℕ) : Type 0 where
   pub x : X
   pub at : slice_get xs n ≡ Some x

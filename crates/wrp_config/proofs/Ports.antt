@@ -23,7 +23,7 @@ away_flat end (link ∷ links) away zero e = (away 0 link refl).0 (let same : up
 away_flat end (link ∷ links) away (suc zero) e = (away 0 link refl).1 (let same : lower_of link ≡ end = cc e in sym same)
 away_flat end (link ∷ links) away (suc (suc k)) e = away_flat end links (λ l. away (suc l)) k e
 
--- a list with an element that does not stand in it
+-- a list with an element that is not in it
 with_new : {X : Type 0} (x : X) (xs : List X) → ((k : ℕ) → slice_get xs k ≢ Some x) → HasNoRepeat xs → HasNoRepeat (x ∷ xs)
 with_new x xs new once zero zero y ei ej = refl
 with_new x xs new once zero (suc j) y ei ej = let same : x ≡ y = cc ei in absurd (new j (ej ∙ ap Some (sym same)))

@@ -114,7 +114,7 @@ found_passes : {X : Type 0} (p : X → Bool) (xs : List X) (x : X) → find p xs
 found_passes p [] x e = cc e
 found_passes p (y ∷ ys) x e = passes_if p (p y) y (find p ys) x refl (found_passes p ys x) e
 
--- so it is the link at whose end that port stands
+-- so it is the link at whose end that port is
 found_is : (links : List LinkCfg) → HasNoRepeat (flat_map ends_of links) → (l node port i : ℕ) (link : LinkCfg) → slice_get links l ≡ Some link
     → slice_get (flat_map ends_of links) i ≡ Some (end_with node port) → l + l ≤ i → i ≤ suc (l + l)
     → (found : Option LinkCfg) → find (has_port node port) links ≡ found → has_port node port link ≡ true → found ≡ Some link

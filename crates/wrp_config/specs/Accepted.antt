@@ -1,5 +1,5 @@
--- What an accepted network keeps: the ranges of its numbers, its tree, the inequalities, its names, and what it takes from
--- its modules and fibres (this project's profile).
+-- What an accepted network keeps: the ranges of its numbers, its tree, the inequalities, its names, and what it takes
+-- from its modules and fibres (this project's profile).
 use Rattle.std.specs.Prelude.{ℕ, ℤ, ◌≡◌, ◌≢◌, ◌↔◌, ◌+◌, ◌≤◌, max, map, fold, unsigned_abs, true, List, Option, None, Some, IsSome, IfSome, slice_get, ◌^◌}
 use Rattle.std.specs.List.{flat_map}
 use Rattle.wrp_network.specs.declared.configuration.NetCfg.{NetCfg}
@@ -20,7 +20,7 @@ abbrev pub HasNoRepeat : {X : Type 0} → List X → Type 0
 HasNoRepeat {X} xs =
     (i j : ℕ) (x : X) → slice_get xs i ≡ Some x → slice_get xs j ≡ Some x → i ≡ j
 
--- the nodes and the links have names, all different, and the nodes identities, all different
+-- the nodes and the links have names, all different, and the nodes have identities, all different
 pub record HasNames (cfg : NetCfg) : Type 0 where
   pub node : (n : ℕ) (node : NodeCfg) → IsNode cfg n node → is_name node.name.bytes ≡ true
   pub link : (l : ℕ) (link : LinkCfg) → IsLink cfg l link → is_name link.name.bytes ≡ true
@@ -40,7 +40,7 @@ pub record HasDelayRanges (delays : Module) : Type 0 where
   pub transition : delays.transition ≤ 16_383
   pub err : delays.err ≤ 1_000_000_000
 
--- a listed module has a name of its own sort, and numbers in their ranges
+-- a listed module has a name of its own kind, and numbers in their ranges
 pub record IsSoundModule (m : ModuleAt) : Type 0 where
   pub name : is_module_name m.name ≡ true
   pub entries : (k : ℕ) (entry : Entry) → slice_get m.entries k ≡ Some entry → HasDelayRanges entry.delays
@@ -59,7 +59,7 @@ pub record IsSoundFibre (f : FibreAt) : Type 0 where
   pub err : f.fibre.err ≤ 1_000_000_000
   pub table : IfSome f.table (IsSoundTable f.fibre.kappa)
 
--- the modules are sound and told apart by their names, and so are the fibres
+-- the modules are sound and have different names, and so have the fibres
 pub record IsSoundDatabase (db : Database) : Type 0 where
   pub modules : (k : ℕ) (m : ModuleAt) → slice_get db.modules k ≡ Some m → IsSoundModule m
   pub fibres : (k : ℕ) (f : FibreAt) → slice_get db.fibres k ≡ Some f → IsSoundFibre f
@@ -68,11 +68,11 @@ pub record IsSoundDatabase (db : Database) : Type 0 where
 
 -- What a link takes from them
 
--- the greatest of these numbers, 0 where there is none
+-- the greatest of these numbers, 0 if there is none
 abbrev pub greatest : List ℕ → ℕ
 greatest ns = fold max 0 ns
 
--- the error of a module's numbers, where it is listed
+-- the error of a module's numbers, if it is listed
 abbrev pub error_of : Option Module → ℕ
 error_of None = 0
 error_of (Some delays) = delays.err
@@ -82,13 +82,13 @@ abbrev pub error_at_ends : ℕ → ℕ → ModuleAt → ℕ
 error_at_ends down up m =
     max (error_of (delays_at m.entries down up)) (error_of (delays_at m.entries up down))
 
--- the error of a law: that of the fraction rounded down, or one more than that of the table
+-- the error of a law: the error of the fraction rounded down, or one more than the error of the table
 abbrev pub law_error : Option TableAt → ℕ
 law_error None = 1
 law_error (Some table) = table.err + 1
 
--- both wavelengths are those of any or neither is, the modules are listed for the pairs of their ends, of which the upper
--- one sends on the way down, the fibre is listed, and the link's numbers are theirs
+-- both wavelengths mean any wavelength or neither does, the modules are listed for the pairs of their ends, of which
+-- the upper one sends on the way down, the fibre is listed, and the link's numbers are theirs
 pub record FitsDatabase (db : Database) (link : LinkCfg) : Type 0 where
   pub wavelengths : (link.down_nm ≡ 0) ↔ (link.up_nm ≡ 0)
   pub upper_module : IsSome (module_at db link.upper_module.bytes link.down_nm link.up_nm)

@@ -1,4 +1,4 @@
--- Laws of accepted networks, for the layers that stand on them (this project's profile).
+-- Laws of accepted networks, for the layers that depend on them (this project's profile).
 use Rattle.std.specs.Prelude.{ℕ, zero, suc, ◌≡◌, ◌<◌, ◌≤◌, Some, IsSome}
 use Rattle.wrp_network.specs.declared.configuration.NetCfg.{NetCfg}
 use Rattle.wrp_network.specs.declared.network.LinkCfg.{LinkCfg}
@@ -7,7 +7,7 @@ use Rattle.wrp_caldb.specs.Database.{Database}
 use Rattle.wrp_config.specs.Accepted.{IsAccepted}
 use Rattle.wrp_config.specs.Names.{link_at, pair_at, listed_at}
 
--- so many links upwards from a node stands another
+-- this many links upwards from a node is another
 abbrev pub IsAbove : NetCfg → ℕ → ℕ → ℕ → Type 0
 IsAbove cfg zero n top = n ≡ top
 IsAbove cfg (suc steps) n top = (link : LinkCfg) × (link_above cfg n ≡ Some link) × IsAbove cfg steps link.upper top
@@ -25,7 +25,7 @@ ChildIsDeeper =
     (cfg : NetCfg) (n depth other : ℕ) (link : LinkCfg) → link_above cfg n ≡ Some link →
     HasDepth cfg depth link.upper → HasDepth cfg other n → other ≡ suc depth
 
--- each port is of one link: that of a link's end is found at that link, with the wavelengths of its end
+-- each port is of one link: the port at a link's end is found at that link, with the wavelengths of its end
 abbrev pub PortIsOfOneLink : Type 0
 PortIsOfOneLink =
     (cfg : NetCfg) (db : Database) (l : ℕ) (link : LinkCfg) → IsAccepted cfg db → IsLink cfg l link →

@@ -1,5 +1,5 @@
--- What a name or a port of a network finds (this project's profile). Nodes and links are told by their places from 0 in
--- file order.
+-- What a name or a port of a network finds (this project's profile). Nodes and links are identified by their places
+-- from 0 in file order.
 use Rattle.std.specs.Prelude.{ℕ, ℤ, ◌==◌, ◌&&◌, ◌||◌, Bool, List, Option, slice_get, option_and_then, option_map, if◌then◌else◌, map}
 use Rattle.std.specs.List.{find, flat_map, filter, position}
 use Rattle.wrp_network.specs.declared.configuration.NetCfg.{NetCfg}
@@ -47,7 +47,7 @@ abbrev pub pair_of : ℕ → ℕ → LinkCfg → ℕ × ℕ
 pair_of node port link =
     if is_upper_end node port link then (link.down_nm, link.up_nm) else (link.up_nm, link.down_nm)
 
--- the wavelengths, in nm, that a port of a node sends and receives; none where no link has that port
+-- the wavelengths, in nm, that a port of a node sends and receives; none if no link has that port
 abbrev pub pair_at : NetCfg → ℕ → ℕ → Option (ℕ × ℕ)
 pair_at cfg node port = option_map (pair_of node port) (link_at cfg node port)
 
@@ -56,7 +56,7 @@ abbrev pub listed_at : NetCfg → Database → ℕ → ℕ → List ℕ → Opti
 listed_at cfg db node port name =
     option_and_then (λ pair. module_at db name pair.0 pair.1) (pair_at cfg node port)
 
--- the points of the stored law of a link's fibre; none where it has no table
+-- the points of the stored law of a link's fibre; none if it has no table
 abbrev pub table_of : NetCfg → Database → ℕ → Option (List (ℤ × ℤ))
 table_of cfg db l =
     option_map (λ table. table.points)

@@ -1,4 +1,4 @@
--- When two networks are the same: what stands in the unused room of a name is no part of it (this project's profile).
+-- When two networks are the same: what is in the unused room of a name is no part of it (this project's profile).
 use Rattle.std.specs.Prelude.{◌≡◌, ℕ, List, [], map}
 use Rattle.arrayvec.specs.ArrayString.{ArrayString}
 use Rattle.wrp_network.specs.declared.configuration.NetCfg.{NetCfg}
@@ -30,6 +30,6 @@ bare_cfg cfg = record cfg {
   links = record { items = map bare_link cfg.links.items };
 }
 
--- the same network, whatever stands in the unused room of its names
+-- the same network, whatever is in the unused room of its names
 abbrev pub IsSameNetwork : Network → Network → Type 0
 IsSameNetwork a b = (bare_cfg a.cfg ≡ bare_cfg b.cfg) × (a.db ≡ b.db)

@@ -114,7 +114,7 @@ fn cfg_copied(cfg: &NetCfg) -> NetCfg
 
 impl Network {
     /// The same network once more, on the heap, since it is large: no frame of a caller has room for
-    /// one. An error comes where there is no memory for it; this network stays as it is.
+    /// one. Returns an error if there is no memory for it; this network stays as it is.
     #[inline(never)]
     pub fn copied(&self, alloc: Global) -> Result<Box<Network>, AllocError>
         ensures { IfOk result (λ copy. copy.value ≡ self.now) }

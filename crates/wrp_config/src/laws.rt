@@ -7,7 +7,7 @@ pub fn one_grandmaster()
     ensures { OneGrandmaster }
 {}
 
-/// A node below another is one link deeper than that.
+/// A node below another is one link deeper.
 pub fn child_is_deeper()
     ensures { ChildIsDeeper }
 {}

@@ -20,7 +20,7 @@ pub struct Network {
 }
 
 impl Network {
-    /// The node of a name, by its place from 0 in file order. `None` exactly where no node has it.
+    /// The node of a name, by its place from 0 in file order. `None` if and only if no node has it.
     pub fn node_named(&self, name: &str) -> Option<u8>
         ensures { result ≡ spec.node_named self.now.cfg name.now }
     {
@@ -30,7 +30,7 @@ impl Network {
         }
     }
 
-    /// The link of a name, by its place from 0 in file order. `None` exactly where no link has it.
+    /// The link of a name, by its place from 0 in file order. `None` if and only if no link has it.
     pub fn link_named(&self, name: &str) -> Option<u8>
         ensures { result ≡ spec.link_named self.now.cfg name.now }
     {
@@ -40,9 +40,9 @@ impl Network {
         }
     }
 
-    /// The numbers of a module at a port of a node: its entry for the wavelengths that the port
-    /// sends and receives, else its entry of any pair. `None` exactly where no link has that port, or
-    /// the module has no such entry.
+    /// The numbers of a module at a port of a node: its entry for the wavelengths that the port sends
+    /// and receives, else its entry of any pair. `None` if and only if no link has that port, or the
+    /// module has no such entry.
     pub fn module_at_port(&self, node: u8, port: u16, name: &str) -> Option<Module>
         ensures { result ≡ listed_at self.now.cfg self.now.db node port name.now }
     {
@@ -53,7 +53,7 @@ impl Network {
     }
 
     /// The points of the stored law of a link's fibre, each a two-way delay and a one-way delay down,
-    /// in tau. `None` exactly where the fibre has no table. The link is one of the network's.
+    /// in tau. `None` if and only if the fibre has no table. The link is one of the network's.
     pub fn table_of(&self, link: u8) -> Option<&[(i64, i64)]>
         requires { link < length self.now.cfg.links.items }
         ensures { option_map (λ points. points.now) result
@@ -122,7 +122,7 @@ fn link_at<'a>(cfg: &'a NetCfg, node: u8, port: u16) -> Option<&'a LinkCfg>
     cfg.links.iter().find(|link| has_port(link, node, port))
 }
 
-/// The wavelengths that a port of a node sends and receives, in nm. `None` exactly where no link has
+/// The wavelengths that a port of a node sends and receives, in nm. `None` if and only if no link has
 /// that port.
 pub fn pair_at(cfg: &NetCfg, node: u8, port: u16) -> Option<(u16, u16)>
     ensures { result ≡ pair_at cfg.now node port }
@@ -133,7 +133,7 @@ pub fn pair_at(cfg: &NetCfg, node: u8, port: u16) -> Option<(u16, u16)>
     }
 }
 
-/// The first link that has this node as its lower end. `None` exactly where the node has no parent.
+/// The first link that has this node as its lower end. `None` if and only if the node has no parent.
 pub fn link_above<'a>(cfg: &'a NetCfg, n: u8) -> Option<&'a LinkCfg>
     ensures { option_map (λ link. link.now) result ≡ network.link_above cfg.now n }
 {

@@ -1,4 +1,4 @@
--- What the premises on stamps and on beat bits leave true of an accepted event.
+-- What holds of an accepted event by the premises on stamps and on beat bits.
 use Rattle.std.proofs.Common.{◌≡◌, ◌∙◌, refl, ap, subst, ℕ, zero, suc, ◌+◌, ◌*◌, ◌/◌, ◌<◌, ◌≤◌, ◌&&◌, ◌||◌, ◌⊎◌, inl, inr, nat_le, nat_lt, ℤ, pos, ◌+ℤ◌, ◌-ℤ◌, ◌<ℤ◌, ◌≤ℤ◌, unsigned_abs, Bool, true, false, not, List, [], ◌∷◌, ◌++◌, map, Option, Some, arith}
 use Rattle.std.proofs.lemmas.Bool.{eqb-true, false≢true, true≢false}
 use Rattle.std.proofs.lemmas.Int.{ints}
@@ -39,7 +39,7 @@ holds_from f k i h l =
     let e : 0 + i ≡ i = omega arith in
     subst (λ n. (f n).fails ≡ false) e (holds_at f k 0 i h l)
 
--- what the event needs stands
+-- what the event needs is there
 stood : (b : Bool) → AllHold (needs b ∷ []) → b ≡ true
 stood true h = refl
 stood false h = absurd (true≢false h.0)

@@ -85,7 +85,7 @@ run_settled settles s (h ∷ before) =
     let w : WorldAt = world_after s before in
     all_given_settled settles s h.answer (given_by s w (moved s w h.event) h.says h.event) (moved s w h.event) (run_settled settles s before)
 
--- What a dropped frame makes of the rest of the world
+-- What a dropped frame does to the rest of the world
 
 end_same : (v : WorldAt) (g : Given) (state : LinkState) (e : EndAt) → end_told v g state state [] e ≡ e
 end_same v g state e = λ i. record {

@@ -38,7 +38,7 @@ led_at : MarksAreAHistory → (s : Setting) (w : WorldAt) (k : ℕ) (r : Role) (
 led_at law s w k Master link can = law (frame_life s.cfg) (shortest_tick s.cfg) (ends_at s w k link) Master can
 led_at law s w k Slave link can = law (frame_life s.cfg) (shortest_tick s.cfg) (ends_at s w k link) Slave can
 
--- those of a port of a node
+-- the marks of a port of a node
 port_led : LinksCanBe → MarksAreAHistory → (s : Setting) (events : List Happened) (n p : ℕ) (place : Place) → IsRun s events → place_of s n p ≡ Some place →
     LeadsTo (state_at s (world_after s events) n p) ((world_after s events).end_at place.link place.role).marks
 port_led can law s events n p place run at =

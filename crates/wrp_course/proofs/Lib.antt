@@ -1,6 +1,7 @@
--- The laws of all runs. The main lemma is that of RunBoth and RunEvents: what an event makes of each link is one of the changes of
--- which the laws of one link speak (`wrp_handshake_laws`), and it may come when it does; so each link of a run is one that can be, and
--- all those laws hold of it (`link_on_in_the_same_handshake`). In the order in which they stand on one another:
+-- The laws of all runs. The main lemma is that of RunBoth and RunEvents: what an event makes of each link is one of the
+-- changes that the laws of one link cover (`wrp_handshake_laws`), and it may come when it does; so each link of a run
+-- is one that can be, and all those laws hold of it (`link_on_in_the_same_handshake`). In the order in which they
+-- depend on one another:
 --
 -- Told, Unbroken, Bounds, Still, Rows: lists of checks, what accepted stamps and samples leave true, the first state, the worked rows.
 -- LinkPorts, PortNumbers, RunLinks, RunNetwork, RunListed: the ports at the ends of links, in an accepted network.

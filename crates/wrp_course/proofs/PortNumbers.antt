@@ -1,4 +1,4 @@
--- The numbers of a node's ports in ascending order: they are those that the links name, from 1 to 18, each once.
+-- The numbers of a node's ports in ascending order: the numbers that the links name, from 1 to 18, each once.
 use Rattle.std.proofs.Common.{◌≡◌, ◌≢◌, ◌∙◌, ◌⊎◌, inl, inr, refl, ap, ap₂, sym, subst, ℕ, zero, suc, ◌+◌, ◌<◌, ◌≤◌, ◌==◌, ◌&&◌, ◌||◌, nat_lt, Bool, true, false, if◌then◌else◌, List, [], ◌∷◌, ◌++◌, Option, None, Some, is_some, slice_get, arith}
 use Rattle.std.proofs.lemmas.Bool.{eqb-true, or_left, or_right}
 use Rattle.std.specs.List.{AllByRecursion, list_any, flat_map}
@@ -72,7 +72,7 @@ any-place n p k (link ∷ links) =
     ∙ ap (λ (b : Bool). is_lower_end n p link || b) (any-place n p (k + 1) links))
     ∙ sym (some-either (is_upper_end n p link) (is_lower_end n p link) (record { link = k; role = Master }) (record { link = k; role = Slave }) (place_among n p (k + 1) links))
 
--- a node has a port exactly where a link names it
+-- a node has a port if and only if a link names it
 pub has-place : (cfg : NetCfg) (n p : ℕ) → has_port cfg n p ≡ is_some (place_among n p 0 cfg.links.items)
 has-place cfg n p = has_ordered p (ports_of cfg n) ∙ ap (any_of p) (numbers-are cfg n cfg.links.items) ∙ any-place n p 0 cfg.links.items
 
@@ -177,7 +177,7 @@ nothing f zero first h = refl
 nothing f (suc count) first h =
     ap₂ (λ xs ys. xs ++ ys) (h first (omega arith)) (nothing f count (first + 1) (λ p k. h p (omega arith)))
 
--- where the others give nothing
+-- if the others give nothing
 pub all_numbers : {A : Type 0} (f : ℕ → List A) (count first last : ℕ) (qs : List ℕ) → first + count ≡ last → Ascends first last qs →
     ((p : ℕ) → first ≤ p → any_of p qs ≡ false → f p ≡ []) → flat_map f (from_on count first) ≡ flat_map f qs
 all_numbers f count first last [] e a h = nothing f count first (λ p k. h p k refl)

@@ -54,7 +54,7 @@ IsLit s w k r link = (port_at s w k r (end_of r link)).link.carrier ≡ true
 abbrev pub LitKeeps : Setting → WorldAt → Type 0
 LitKeeps s w = (k : ℕ) (link : LinkCfg) → link_of s k ≡ Some link → has_carrier s w k ≡ true → (r : Role) → IsLit s w k r link
 
--- Inputs by which no carrier goes
+-- Inputs with which no carrier goes
 
 bright_keeps : Laws → (s : Setting) (y : ℤ) (gs : List Given) (w v : WorldAt) → AllGiven IsBright gs → ((k : ℕ) → has_carrier s v k ≡ has_carrier s w k) →
     ((k : ℕ) (r : Role) (link : LinkCfg) → IsLit s w k r link → IsLit s v k r link) → LitKeeps s w → LitKeeps s (gives_all s y v gs)

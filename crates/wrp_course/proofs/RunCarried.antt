@@ -16,7 +16,7 @@ pub gives_append : (s : Setting) (y : ℤ) (xs ys : List Given) (v : WorldAt) �
 gives_append s y [] ys v = refl
 gives_append s y (x ∷ xs) ys v = gives_append s y xs ys (gives s y v x)
 
--- a link is that of a port among these, which are still to come
+-- a link is the link of one of these ports, which are still to come
 
 abbrev pub IsLinkOf : ℕ → Option Place → Type 0
 IsLinkOf k None = ⊥
@@ -30,7 +30,7 @@ IsLeft s n k (p ∷ ps) = IsLinkOf k (place_of s n p) ⊎ IsLeft s n k ps
 pub not_next : (s : Setting) (n k p : ℕ) (ps : List ℕ) (o : Option Place) → place_of s n p ≡ o → (IsLinkOf k o → ⊥) → (IsLeft s n k ps → ⊥) → IsLeft s n k (p ∷ ps) → ⊥
 not_next s n k p ps o e h u t = elim t [ inl x ↦ h (subst (IsLinkOf k) e x) | inr x ↦ u x ]
 
--- Carriers that come, in the world v, where they were in the world w or come at a port
+-- Carriers that come, in the world v, if they were in the world w or come at a port
 
 abbrev pub CameBut : Setting → (w v : WorldAt) → (n : ℕ) → List ℕ → ℕ → (Role → Option Module) → Type 0
 CameBut s w v n ps k placed = has_carrier s v k ≡ true → (has_carrier s w k ≡ true) ⊎ (IsLeft s n k ps → ⊥) → (q : Role) → placed q ≡ in_place s v k q
@@ -68,7 +68,7 @@ ports_come laws s net y w v n (p ∷ ps) x h =
     subst (RunKeeps s (CameBut s w v n []) (Uncarried s v)) (sym (gives_append s y here rest x))
     (ports_come laws s net y w v n ps (gives_all s y x here) (come_next laws s net y w v n p ps x (place_of s n p) refl h))
 
--- Carriers that go, where they were in the world w, at each port
+-- Carriers that go, if they were in the world w, at each port
 
 abbrev pub GoneBut : Setting → WorldAt → (n : ℕ) → (all ps : List ℕ) → ℕ → Type 0
 GoneBut s w n all ps k = (has_carrier s w k ≡ false) ⊎ (IsLeft s n k all × (IsLeft s n k ps → ⊥))

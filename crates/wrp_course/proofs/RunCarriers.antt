@@ -53,7 +53,7 @@ nodes_apart link two e = two (ap (λ (x : End). x.node) e)
 abbrev pub both_come : Setting → ℤ → WorldAt → End → Option Module → End → Option Module → WorldAt
 both_come s y v a m b n = gives s y (gives s y v (comes_to a m)) (comes_to b n)
 
--- the modules at both ends, of which the first is that of this role
+-- the modules at both ends, of which the first is the module at the end of this role
 abbrev pub both_in : Role → Option Module → Option Module → Role → Option Module
 both_in Master m n = of_both m n
 both_in Slave m n = of_both n m

@@ -1,4 +1,4 @@
--- Events by which carriers go and come.
+-- Events in which carriers go and come.
 use Rattle.std.proofs.Common.{◌≡◌, ◌⊎◌, inl, inr, ◌∙◌, refl, ap, ap₂, sym, subst, ℕ, ◌==◌, ◌&&◌, ℤ, not, Bool, true, false, if◌then◌else◌, List, [], ◌∷◌, Option, None, Some, Result}
 use Rattle.std.proofs.lemmas.Bool.Decides.{eqb_tells}
 use Rattle.arrayvec.specs.ArrayVec.{ArrayVec as Items}
@@ -49,7 +49,7 @@ link_of_node s net c d n k (Some link) e h =
 other_clock : (c d : ClockState) (m n : ℕ) → (m ≡ n → ⊥) → (if m == n then c else d).up ≡ d.up
 other_clock c d m n out = ap (λ b. (if b then c else d).up) (not_equal m n out)
 
--- both ends are up where they still are once a node went down
+-- both ends were up if they still are after a node went down
 pub and_less : (a b c d : Bool) → (a ≡ true → c ≡ true) → (b ≡ true → d ≡ true) → (a && b) ≡ true → (c && d) ≡ true
 and_less true b c d f g e = ap₂ (λ x y. x && y) (f refl) (g e)
 and_less false b c d f g e = absurd (not_both false e refl)
@@ -67,7 +67,7 @@ was_up s w n k c =
     and_less (w.fibre k).joined (ends_are_up (moved s w (Down n)).clock (link_of s k)) (w.fibre k).joined (ends_are_up w.clock (link_of s k)) (λ j. j)
     (ends_less (moved s w (Down n)).clock w.clock (link_of s k) (λ m. down_less (m == n) (w.clock m))) c
 
--- what goes down of carriers is at the node's ports
+-- carriers that go down are at the node's ports
 went_down : (s : Setting) → IsNetwork s → (w : WorldAt) (n k : ℕ) (b : Bool) → has_carrier s w k ≡ b → has_carrier s (moved s w (Down n)) k ≡ false → GoneBut s w n (numbers_of (s.set n)) [] k
 went_down s net w n k false e d = inl e
 went_down s net w n k true e d =

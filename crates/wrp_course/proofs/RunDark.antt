@@ -1,4 +1,4 @@
--- A port without a carrier stays so, but for a carrier that comes to it.
+-- A port without a carrier stays without one, unless a carrier comes to it.
 use Rattle.std.proofs.Common.{◌≡◌, ◌∙◌, inl, inr, refl, ap, sym, subst, ℕ, ◌==◌, ℤ, pos, Bool, true, false, if◌then◌else◌, None, Some, Result}
 use Rattle.std.proofs.lemmas.Bool.Decides.{eqb_tells}
 use Rattle.wrp_base.specs.declared.link.Role.{Role}
@@ -24,7 +24,7 @@ use Rattle.wrp_course.specs.WorldAt.{WorldAt}
 use Rattle.wrp_course.proofs.RunGiven.{IsFair, IsFairInput}
 use Rattle.wrp_course.proofs.RunPorts.{any_frame, port_by_news, port_given, port_other}
 
--- news by which no carrier comes
+-- news with which no carrier comes
 abbrev NoLight : LinkNews → Type 0
 NoLight Nothing = Unit {0}
 NoLight (Handed input) = IsNoCarrier input
@@ -42,7 +42,7 @@ news_dark time q at Nothing h e = e
 news_dark time q at (Handed input) h e = after_dark q.link input h e
 news_dark time q at Renewed h e = refl
 
--- inputs by which no carrier comes
+-- inputs with which no carrier comes
 abbrev pub IsQuiet : Input → Type 0
 IsQuiet (Carrier p true own_module) = ⊥
 IsQuiet _ = Unit {0}

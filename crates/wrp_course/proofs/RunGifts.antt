@@ -29,7 +29,7 @@ pub all_if : (Q : Input → Type 0) (b : Bool) (xs : List Given) → AllGiven Q 
 all_if Q true xs h = h
 all_if Q false xs h = tt
 
--- a sending that is told
+-- a sending that is reported
 
 told_all : (Q : Input → Type 0) → ((p seq : ℕ) (delay : Bool) (stamp : Stamp) → Q (Sent p seq delay stamp)) → (n p seq : ℕ) (stamp : ℤ) (samples : ℕ) (body : Body) → AllGiven Q (told_sending n p seq stamp samples body)
 told_all Q h n p seq stamp samples (Sync origin) = (h p seq false (record { value = stamp; sample = samples }), tt)

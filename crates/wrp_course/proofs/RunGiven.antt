@@ -1,4 +1,4 @@
--- What is given to the nodes are changes of each link that may come.
+-- The inputs that nodes are given are changes of each link that may come.
 use Rattle.std.proofs.Common.{◌≡◌, ◌⊎◌, inl, inr, ◌∙◌, refl, ap, sym, subst, ℕ, ◌==◌, ℤ, pos, ◌+ℤ◌, ◌≤ℤ◌, Bool, true, false, if◌then◌else◌, ◌∷◌, Option, None, Some, option_map, Result, Ok, Err}
 use Rattle.std.proofs.lemmas.Bool.{eqb-true}
 use Rattle.std.proofs.lemmas.Bool.Decides.{eqb_tells}
@@ -35,7 +35,7 @@ use Rattle.wrp_course.proofs.RunPorts.{link_dark, port_by_news, port_given, port
 
 -- A link that can be, and one change more
 
--- a link that can be, at whose ends these modules were in place as the carriers last came
+-- a link that can be, at whose ends these modules were in place when the carriers last came
 pub record CanHave (life dmin : ℕ) (placed : Role → Option Module) (ends : BothPorts) : Type 0 where
   pub can : CanBe life dmin ends
   pub modules : (r : Role) → placed_at can.changes r ≡ placed r
@@ -55,7 +55,7 @@ same_can life dmin placed ends other e h = record {
   modules = h.modules;
 }
 
--- a change by which no carrier comes
+-- a change with which no carrier comes
 abbrev pub LightsNone : Change → Type 0
 LightsNone (Lights of_master of_slave) = ⊥
 LightsNone _ = Unit {0}
@@ -107,7 +107,7 @@ NewsMay life dmin time q peer at Nothing = Unit {0}
 NewsMay life dmin time q peer at (Handed input) = IsNoCarrier input × MayHear life dmin time q peer input at
 NewsMay life dmin time q peer at Renewed = Unit {0}
 
--- to begin anew is to lose the carrier, or nothing where there is none
+-- to begin again is to lose the carrier, or has no effect if there is none
 
 begins_lit : (time : ℤ) (q : Port) (at : ℤ) → q.link.carrier ≡ true → port_by_news time q at Renewed ≡ after_input time q link_in.CarrierDown at
 begins_lit time q at e = sym (ap (λ b. port_by time q link_in.CarrierDown at (under b CarrierGoes)) e)

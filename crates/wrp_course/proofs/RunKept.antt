@@ -1,4 +1,4 @@
--- What is kept of every link of a world, and of its frames, as nodes are given inputs.
+-- What is kept of every link of a world, and of its frames, when nodes are given inputs.
 use Rattle.std.proofs.Common.{◌≡◌, ◌⊎◌, inl, inr, ◌∙◌, refl, ap, sym, subst, ℕ, ℤ, true, false, List, [], ◌∷◌, ◌++◌, Option, None, Some, option_map}
 use Rattle.std.proofs.lemmas.Bool.Decides.{eqb_tells}
 use Rattle.std.specs.List.{AllByRecursion}
@@ -29,7 +29,7 @@ use Rattle.wrp_course.proofs.RunFrames.{FramesKeep, given_frames}
 use Rattle.wrp_course.proofs.RunGiven.{IsFair, LinkCan, end_is, given_keeps}
 use Rattle.wrp_course.proofs.RunNetwork.{are_apart, two_nodes}
 
--- the laws that this stands on
+-- the laws that this rests on
 pub record Laws : Type 0 where
   pub links : StepGivesLinks
   pub signals : SignalsAreOfLink
@@ -43,7 +43,7 @@ pub record Laws : Type 0 where
 abbrev pub IsDarkAt : Setting → WorldAt → ℕ → Role → LinkCfg → Type 0
 IsDarkAt s w k r link = (port_at s w k r (end_of r link)).link.carrier ≡ false
 
--- a link is one that can be, with modules of which something is known; and where it is said so, both its ports have no
+-- a link is one that can be, with modules of which something is known; and if it is said so, both its ports have no
 -- carrier
 pub record LinkKeeps (s : Setting) (R : ℕ → (Role → Option Module) → Type 0) (D : ℕ → Type 0) (w : WorldAt) (k : ℕ) (link : LinkCfg) : Type 0 where
   pub placed : Role → Option Module

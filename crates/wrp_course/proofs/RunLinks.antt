@@ -29,7 +29,7 @@ counted_carrier l Idle = refl
 counted_carrier l LinkOn = refl
 counted_carrier l _ = refl
 
--- with a carrier, it goes alone by the row of that
+-- a carrier goes only by the row of a carrier that goes
 lit_row : (l : LinkAt) (row : Row) → l.carrier ≡ true → IsDark (by_row l row)
 lit_row l Counts e = λ f. absurd (not_both l.carrier e (sym (counted_carrier l l.state) ∙ f))
 lit_row l CarrierGoes e = λ f. refl

@@ -130,7 +130,7 @@ left_in s n k p (q ∷ ps) h i = elim i [
   | inr t ↦ inr (left_in s n k p ps h t)
 ]
 
--- a link of a node is that of one of its ports
+-- a link of a node is the link of one of its ports
 pub link_is_left : (s : Setting) → IsNetwork s → (n k : ℕ) (r : Role) (link : LinkCfg) → link_of s k ≡ Some link → (end_of r link).node ≡ n → IsLeft s n k (numbers_of (s.set n))
 link_is_left s net n k r link is e =
     subst (λ m. IsLeft s m k (numbers_of (s.set m))) e

@@ -87,7 +87,7 @@ tick_keeps l Locked locked = timer_keeps l l.waiting
 tick_keeps l Calibrated locked = timer_keeps l l.waiting
 tick_keeps l RespCalib locked = timer_keeps l l.waiting
 
--- News by which no carrier goes
+-- News with which no carrier goes
 
 abbrev NoLoss : LinkNews → Type 0
 NoLoss Nothing = Unit {0}
@@ -107,7 +107,7 @@ news_lit time q at (Handed link_in.CarrierDown) h e = absurd h
 news_lit time q at (Handed (link_in.CarrierUp own_module)) h e = refl
 news_lit time q at Renewed h e = absurd h
 
--- inputs by which none goes
+-- inputs with which none goes
 abbrev pub IsBright : Input → Type 0
 IsBright (Carrier p false own_module) = ⊥
 IsBright Reset = ⊥

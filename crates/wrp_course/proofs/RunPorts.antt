@@ -1,4 +1,4 @@
--- The ports at the ends of a link as the laws of one link see them, and what an input of a node makes of them.
+-- The ports at the ends of a link as the laws of one link see them, and what an input of a node does to them.
 use Rattle.std.proofs.Common.{◌≡◌, ◌∙◌, refl, ap, ap₂, sym, ℕ, ◌==◌, ℤ, Bool, true, false, if◌then◌else◌, List, [], ◌∷◌, map, Option, None, Some, Result, Ok, Err}
 use Rattle.std.specs.Option.{option_map_or}
 use Rattle.wrp_base.specs.declared.link.LinkState.TheVariants.{Idle}
@@ -49,7 +49,7 @@ link_set s v n p = run_set (new_link (setting_of (s.set n) p).ds.role (setting_o
 pub link_dark : (s : Setting) (v : WorldAt) (n p : ℕ) → IsDark (link_at (s.set n) (v.node n) p)
 link_dark s v n p = run_dark (setting_of (s.set n) p).ds.role (setting_of (s.set n) p).link (link_inputs (setting_of (s.set n) p) ((v.node n).told p))
 
--- What news make of a port
+-- What news does to a port
 
 abbrev pub port_by_news : ℤ → Port → ℤ → LinkNews → Port
 port_by_news time q at Nothing = q

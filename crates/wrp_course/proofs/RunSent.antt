@@ -1,4 +1,4 @@
--- The step by which a frame was put out, and that frames which can still be handed over were put out lately.
+-- The step in which a frame was put out, and that frames which can still be handed over were put out lately.
 use Rattle.std.proofs.Common.{◌≡◌, ◌⊎◌, inl, inr, ◌∙◌, refl, ap, sym, subst, ℕ, suc, ◌+◌, ◌<◌, ◌≤◌, ℤ, pos, ◌+ℤ◌, ◌-ℤ◌, ◌≤ℤ◌, not, false, if◌then◌else◌, List, [], ◌∷◌, ◌++◌, flat_map, length, map, Option, None, Some, arith}
 use Rattle.std.proofs.lemmas.Bool.Decides.{eqb_tells}
 use Rattle.std.proofs.lemmas.Int.{ints}
@@ -186,7 +186,7 @@ rest_length : (newer events : List Happened) → length events ≤ length (newer
 rest_length [] events = omega arith
 rest_length (h ∷ newer) events = let more : length events ≤ length (newer ++ events) = rest_length newer events in omega (arith, more)
 
--- what was put out by then was so in the events until then
+-- what was put out by then was put out in the events until then
 put_by_then : (s : Setting) → IsNetwork s → (newer events : List Happened) (k : ℕ) (r : Role) (link : LinkCfg) (x : Sending) → link_of s k ≡ Some link → x.moment ≤ length events →
     WasPutOut x ((world_after s (newer ++ events)).end_at k r).sent → WasPutOut x ((world_after s events).end_at k r).sent
 put_by_then s net [] events k r link x is le put = put

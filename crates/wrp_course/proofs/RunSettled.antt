@@ -77,7 +77,7 @@ moved_keeps s R D w e event h = record {
   frames = moved_frames s w e h.frames;
 }
 
--- where a carrier stood, the modules are those of before
+-- if there was a carrier, the modules are the same as before
 same_place : (s : Setting) (w : WorldAt) (says : Result PtpMsg FrameFault) (e : Event) (k : ℕ) (q : Role) → Accepts s w says e → has_carrier s w k ≡ true → in_place s w k q ≡ in_place s (moved s w e) k q
 same_place s w says e k q a c = ap (entry_at s k q) (sym (moved_module s w says e k q a c).name)
 

@@ -39,7 +39,7 @@ more events older h c = (h ∷ c.0, c.1, ap (λ xs. h ∷ xs) c.2)
 newest : (older : List Happened) (h : Happened) → CameAfter (h ∷ older) older
 newest older h = ([], h, refl)
 
--- a frame as it was, but for its arrival and whether it is gone
+-- a frame as it was, except for its arrival and whether it is gone
 abbrev with_end : FrameAt → Bool → Option Arrival → FrameAt
 with_end f gone o = record f { gone = gone; arrival = o }
 

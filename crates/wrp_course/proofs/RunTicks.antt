@@ -56,7 +56,7 @@ all_given_ticked s y (g ∷ gs) v n h = all_given_ticked s y gs (gives s y v g) 
 abbrev Stepped : Setting → (old now after : ℤ) → ℕ → Event → Type 0
 Stepped s old now after n e = (after ≡ old) ⊎ ((after ≡ now) × TickOrStart (shortest_tick s.cfg) n old now e)
 
--- nothing but a start changes it
+-- only a start changes it
 stays : (s : Setting) (y : ℤ) (gs : List Given) (w v : WorldAt) (e : Event) (n : ℕ) → AllByRecursion (λ g. NoTick g.input) gs → (v.clock n).ticked ≡ (w.clock n).ticked →
     Stepped s (w.clock n).ticked (gives_all s y v gs).time ((gives_all s y v gs).clock n).ticked n e
 stays s y gs w v e n h same = inl (all_given_ticked s y gs v n h ∙ same)

@@ -1,4 +1,4 @@
--- By which event the carrier of a port came, and how long ago, after every event of every run.
+-- In which event the carrier of a port came, and how long ago, after every event of every run.
 use Rattle.std.proofs.Common.{◌≡◌, inl, inr, ◌∙◌, refl, ap, ap₂, sym, subst, ℕ, ◌==◌, ◌&&◌, ℤ, ◌≤ℤ◌, Bool, true, false, if◌then◌else◌, List, [], ◌∷◌, ◌++◌, Some, Result}
 use Rattle.std.proofs.lemmas.Bool.{cases_Bool}
 use Rattle.std.proofs.lemmas.Bool.Decides.{eqb_tells}
@@ -123,7 +123,7 @@ dark_since s w k r end past dark =
       awake = λ out. absurd (out (ap (λ (l : LinkAt). l.state) (new dark)));
     }
 
--- The event by which it came
+-- The event in which it came
 
 up_away : (c d : ClockState) (m n : ℕ) → (m ≡ n → ⊥) → (if m == n then c else d).up ≡ d.up
 up_away c d m n out = ap (λ b. (if b then c else d).up) (not_equal m n out)
@@ -166,7 +166,7 @@ light_time s w (Join l ms sm) k link h = refl
 light_time s w (Up n off swaps) k link h = refl
 light_time s w _ k link h = absurd h
 
--- the carrier came by one of these events
+-- the carrier came in one of these events
 record CameBy (s : Setting) (k : ℕ) (r : Role) (link : LinkCfg) (events : List Happened) : Type 0 where
   since : List Happened
   event : Happened

@@ -1,4 +1,4 @@
--- What is told of checks that stand one after another.
+-- What is reported of checks that come one after another.
 use Rattle.std.proofs.Common.{◌≡◌, ◌∙◌, refl, ap, sym, ℕ, zero, suc, ◌+◌, ◌-◌, ◌<◌, ◌≤◌, Bool, true, false, if◌then◌else◌, List, [], ◌∷◌, ◌++◌, map, flat_map, drop, length, slice_index_or, Option, None, Some, option_map, arith}
 use Rattle.std.specs.Option.{option_or}
 use Rattle.wrp_frame.proofs.Walk.{or_none}
@@ -11,7 +11,7 @@ first_of : (b : Bool) (c : Check) (rest : Option Check) →
 first_of true c rest = refl
 first_of false c rest = refl
 
--- the first of two is told where it fails, and else the second
+-- the first of two is reported if it fails, else the second
 pub told_cons : (c : Check) (rest : List Check) → told_of (c ∷ rest) ≡ option_or (told_of (c ∷ [])) (told_of rest)
 told_cons c rest = first_of c.fails c (first_broken rest)
 
@@ -33,7 +33,7 @@ told_three a b c =
     told_cons a (b ∷ (c ∷ [])) ∙ ap (option_or (told_of (a ∷ []))) (told_cons b (c ∷ []))
     ∙ or_or (told_of (a ∷ [])) (told_of (b ∷ [])) (told_of (c ∷ []))
 
--- where what the event needs stands, the other checks are told
+-- if what the event needs is there, the other checks are reported
 pub told_standing : (xs : List Check) → told_of (xs ++ (needs true ∷ [])) ≡ told_of xs
 told_standing xs = told_append xs (needs true ∷ []) ∙ or_none (told_of xs)
 
@@ -85,7 +85,7 @@ map_more f xs i d h =
     let next : suc i ≡ i + 1 = omega arith in
     map_next f xs i d h ∙ ap (λ k. option_or (told_of (f (slice_index_or xs i d) ∷ [])) (told_of (map f (drop k xs)))) next
 
--- an element of which something is told ends the loop, and one of which nothing is told leaves the rest
+-- an element of which something is reported ends the loop, and one of which nothing is reported leaves the rest
 pub ends : (a whole rest b : Option Breach) (breach : Breach) → b ≡ whole → b ≡ option_or a rest → a ≡ Some breach → Some breach ≡ whole
 ends a whole rest b breach e f g = sym (sym e ∙ f ∙ ap (λ o. option_or o rest) g)
 

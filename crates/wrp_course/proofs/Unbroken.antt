@@ -1,4 +1,4 @@
--- Of a list of checks none fails exactly where none is the first that fails.
+-- No check of a list fails if and only if none is the first that fails.
 use Rattle.std.proofs.Common.{◌≡◌, refl, List, [], ◌∷◌, None, Some}
 use Rattle.wrp_handshake_laws.proofs.Parts.{by_bool}
 use Rattle.wrp_course.specs.Checks.{Check, AllHold, first_broken}

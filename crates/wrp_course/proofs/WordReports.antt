@@ -1,4 +1,4 @@
--- What a node's step reports of the words of its ports; a port comes to WR_LINK_ON by a frame alone.
+-- What a node's step reports of the words of its ports; only a frame brings a port to WR_LINK_ON.
 use Rattle.std.proofs.Common.{◌≡◌, ◌∙◌, refl, ap, subst, ℕ, ℤ, ◌==◌, Bool, true, false, if◌then◌else◌, nat_lt, List, [], ◌∷◌, ◌++◌, map, flat_map, Option, None, Some, Result, arith}
 use Rattle.std.specs.List.{AllByRecursion, list_any}
 use Rattle.std.proofs.lemmas.Bool.{or_right}
@@ -30,7 +30,7 @@ use Rattle.wrp_port.specs.Outputs.{is_word}
 
 -- Lists
 
--- where each of some numbers gives what holds, all that they give does
+-- if what each of some numbers gives holds, all that they give holds
 all_numbers : (P : Output → Type 0) (f : ℕ → List Output) (qs : List ℕ) → ((p : ℕ) → list_any (λ q. q == p) qs ≡ true → AllByRecursion P (f p)) → AllByRecursion P (flat_map f qs)
 all_numbers P f [] h = tt
 all_numbers P f (q ∷ qs) h =

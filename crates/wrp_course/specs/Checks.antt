@@ -11,17 +11,17 @@ pub record Check : Type 0 where
   pub shown : ℤ
   pub bound : ℤ
 
--- shown is to be at most the bound
+-- shown must be at most the bound
 abbrev pub at_most : ℕ → ℤ → ℤ → Check
 at_most premise shown bound =
     record { premise = premise; fails = not (le_z shown bound); shown = shown; bound = bound }
 
--- shown is to be at least the bound
+-- shown must be at least the bound
 abbrev pub at_least : ℕ → ℤ → ℤ → Check
 at_least premise shown bound =
     record { premise = premise; fails = not (le_z bound shown); shown = shown; bound = bound }
 
--- a check that is made only where it has something to speak of
+-- a check that is made only if it has something to check
 abbrev pub only_where : Bool → Check → Check
 only_where exists check = record check { fails = exists && check.fails }
 
@@ -29,7 +29,7 @@ only_where exists check = record check { fails = exists && check.fails }
 abbrev pub size_of : ℤ → ℤ
 size_of x = pos (unsigned_abs x)
 
--- 13, NotUp: what the event needs stands
+-- 13, NotUp: what the event needs is there
 abbrev pub needs : Bool → Check
 needs holds = record { premise = 13; fails = not holds; shown = pos 0; bound = pos 1 }
 
@@ -49,10 +49,10 @@ AllHold checks = AllByRecursion Holds checks
 abbrev pub first_broken : List Check → Option Check
 first_broken checks = find (λ check. check.fails) checks
 
--- what is told of a check that fails: its premise and its two sides
+-- what is reported of a check that fails: its premise and its two sides
 abbrev pub breach_of : Check → Breach
 breach_of check = record { premise = check.premise; shown = check.shown; bound = check.bound }
 
--- what is told of these checks: the first that fails, if one does
+-- what is reported of these checks: the first that fails, if one does
 abbrev pub told_of : List Check → Option Breach
 told_of checks = option_map breach_of (first_broken checks)

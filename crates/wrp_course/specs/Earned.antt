@@ -1,5 +1,5 @@
--- What a port in WR_LINK_ON has earned, and what stands behind each report of one, after every event of every run (this
--- project's profile).
+-- What a port in WR_LINK_ON has earned, and what each report of such a port rests on, after every event of every run
+-- (this project's profile).
 use Rattle.std.specs.Prelude.{◌≡◌, ℕ, List, ◌∷◌, Some}
 use Rattle.std.specs.List.{AllByRecursion}
 use Rattle.wrp_base.specs.declared.link.LinkState.TheVariants.{LinkOn}
@@ -19,7 +19,7 @@ use Rattle.wrp_course.specs.SameHandshake.{IsInTheSameHandshake, state_at}
 use Rattle.wrp_course.specs.Setting.{Setting, end_of, link_of, place_of}
 use Rattle.wrp_course.specs.WorldAt.{WorldAt}
 
--- a slave knows the deltas of the modules that are now in place at both ends, and its master's two were told in that same
+-- a slave knows the deltas of the modules that are now in place at both ends, and its master's two came in that same
 -- handshake
 abbrev pub KnowsTheDeltas : Setting → WorldAt → Place → Type 0
 KnowsTheDeltas s w place =
@@ -55,7 +55,7 @@ AreTrueReports s w step = AllByRecursion (IsEarnedReport s w step.node) step.out
 abbrev pub EveryLinkOnIsEarned : Type 0
 EveryLinkOnIsEarned = (s : Setting) (events : List Happened) → IsRun s events → AllHaveEarned s (world_after s events)
 
--- whatever port the nodes report to be in WR_LINK_ON in an event is there after it, and has earned it
+-- any port that the nodes report to be in WR_LINK_ON in an event is there after it, and has earned it
 abbrev pub ReportsAreTrue : Type 0
 ReportsAreTrue =
     (s : Setting) (h : Happened) (before : List Happened) → IsRun s (h ∷ before) →

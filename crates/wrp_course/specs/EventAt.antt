@@ -1,4 +1,4 @@
--- Which events can come to a network: those that a line can say (this project's profile).
+-- Which events can come to a network: those that a line can express (this project's profile).
 use Rattle.std.specs.Prelude.{ℕ, ℤ, pos, ◌≡◌, ◌≢◌, ◌≤◌, ◌≤ℤ◌, ◌<◌, ◌^◌, ◌%◌, unsigned_abs, true, List, length}
 use Rattle.std.specs.List.{AllByRecursion, AllPairs}
 use Rattle.wrp_network.specs.declared.configuration.NetCfg.{NetCfg}
@@ -55,8 +55,8 @@ pub record AreSwaps (swaps : List Swap) : Type 0 where
   pub each : AllByRecursion IsSwap swaps
   pub apart : AllPairs (λ a b. a.port ≢ b.port) swaps
 
--- the event may stand in a line: its numbers are in the ranges of a line, its nodes and links are the
--- network's, and it has one drift for each node and one move for each link
+-- a line can express the event: its numbers are in the ranges of a line, its nodes and links are the network's, and it
+-- has one drift for each node and one move for each link
 abbrev pub IsEventOf : NetCfg → Event → Type 0
 IsEventOf cfg (Pass dt drifts fibres) = IsPass cfg dt drifts.items fibres.items
 IsEventOf cfg (Tick node) = node < node_count cfg

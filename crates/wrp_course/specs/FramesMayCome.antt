@@ -15,7 +15,7 @@ use Rattle.wrp_course.specs.Runs.{IsRun}
 use Rattle.wrp_course.specs.Setting.{Setting, end_at}
 use Rattle.wrp_course.specs.WorldAt.{FrameAt}
 
--- a frame that was put out in these events, and that can still be handed over: once none or more events came behind them, it is
+-- a frame that was put out in these events, and that can still be handed over: after none or more further events, it is
 -- accepted that it is
 pub record MayStillCome (s : Setting) (events : List Happened) (f : FrameAt) : Type 0 where
   pub later : List Happened
@@ -43,6 +43,6 @@ pub record WasSentLately (s : Setting) (events : List Happened) (f : FrameAt) : 
   pub node : step.node ≡ end.node
   pub sent : Contains step.outs (Send end.port (record { items = octets_of f.sending.message }))
 
--- so it is with each frame that can still be handed over
+-- this holds of each frame that can still be handed over
 abbrev pub FramesMayCome : Type 0
 FramesMayCome = (s : Setting) (events : List Happened) (f : FrameAt) → MayStillCome s events f → WasSentLately s events f

@@ -32,7 +32,7 @@ use Rattle.wrp_course.specs.WorldAt.{WorldAt, EndAt, FrameAt, Arrival, Sending, 
 
 -- What an event gives
 
--- an input of a node; where it is a frame, with what its octets say, and with the true time at which it was put out
+-- an input of a node; if it is a frame, also what its octets say, and the true time at which it was put out
 pub record Given : Type 0 where
   pub to : ℕ
   pub input : Input
@@ -43,7 +43,7 @@ pub record Given : Type 0 where
 abbrev pub given : ℕ → Input → Result PtpMsg FrameFault → Given
 given n input says = record { to = n; input = input; says = says; at = pos 0 }
 
--- what stands where no octets are read
+-- the value used when no octets are read
 abbrev pub unread : Result PtpMsg FrameFault
 unread = Err Short
 
@@ -51,7 +51,7 @@ unread = Err Short
 abbrev pub given_plain : ℕ → Input → Given
 given_plain n input = given n input unread
 
--- the sending of a Sync and of a Delay_Req is told to its node
+-- the sending of a Sync and of a Delay_Req is reported to its node
 abbrev pub told_sending : (n p seq : ℕ) (stamp : ℤ) (samples : ℕ) → Body → List Given
 told_sending n p seq stamp samples (Sync origin) =
     given_plain n (Sent p seq false (record { value = stamp; sample = samples })) ∷ []
@@ -59,8 +59,9 @@ told_sending n p seq stamp samples (DelayReq origin) =
     given_plain n (Sent p seq true (record { value = stamp; sample = samples })) ∷ []
 told_sending n p seq stamp samples _ = []
 
--- what a node is given as the oldest frame of these, which wait at its port, departs: its send stamp, in tau, with the number
--- of the node's last sample, if it is a Sync or a Delay_Req; nothing if it is another message, or if no frame waits
+-- what a node is given when the oldest of these frames, which wait at its port, departs: its send stamp, in tau, with
+-- the number of the node's last sample, if it is a Sync or a Delay_Req; nothing if it is another message, or if no
+-- frame waits
 abbrev pub sent_oldest : (n p : ℕ) (stamp : ℤ) (samples : ℕ) → List Sending → List Given
 sent_oldest n p stamp samples [] = []
 sent_oldest n p stamp samples (oldest ∷ rest) =
@@ -82,7 +83,7 @@ delivered_by s f None = []
 delivered_by s f (Some arrival) =
     option_map_or (λ end. delivered_to f arrival end.node end.port) (end_at s f.link (other_of f.by)) []
 
--- the same of the frame that is asked for: nothing if no frame of this number departed
+-- the same of the frame of this number: nothing if no such frame departed
 abbrev pub delivered : Setting → Option FrameAt → List Given
 delivered s None = []
 delivered s (Some f) = delivered_by s f f.arrival
@@ -107,7 +108,7 @@ goes_from s k r = goes_at s k r ++ goes_at s k (other_of r)
 abbrev pub comes_from : Setting → WorldAt → ℕ → Role → List Given
 comes_from s w k r = comes_at s w k r ++ comes_at s w k (other_of r)
 
--- where the link of a port has its carrier in the first world
+-- if the link of a port has its carrier in the first world
 abbrev pub if_carried : Setting → WorldAt → (ℕ → Role → List Given) → Option Place → List Given
 if_carried s w gives None = []
 if_carried s w gives (Some place) = if has_carrier s w place.link then gives place.link place.role else []
@@ -152,8 +153,8 @@ abbrev pub in_frame : Result PtpMsg FrameFault → ℤ → Option (WrMsg × ℤ)
 in_frame (Err fault) at = None
 in_frame (Ok message) at = in_body message.body at
 
--- the White Rabbit message that an input is, which is what may move a link's state, with the true time at which it was sent;
--- None for every other input
+-- the White Rabbit message that an input is, which is what may move a link's state, with the true time at which it was
+-- sent; None for every other input
 abbrev pub mover_of : Given → Input → Option (WrMsg × ℤ)
 mover_of g (Frame p octets raw sample) = in_frame g.says g.at
 mover_of g _ = None
@@ -166,7 +167,7 @@ end_told v g old new messages e = record e {
   marks = marked v.time old new (mover_of g g.input) e.marks;
 }
 
--- what is taken of an input; y is the law's answer, should it be asked
+-- the record of an input that a node took; y is the law's answer, should it be asked
 abbrev pub taken_of : ℤ → Given → Taken
 taken_of y g = record { input = g.input; says = g.says; answer = y }
 
@@ -174,7 +175,7 @@ taken_of y g = record { input = g.input; says = g.says; answer = y }
 abbrev pub step_of : Setting → ℤ → WorldAt → Given → Step
 step_of s y v g = node_step (node_setting_of s g.to) (taken_of y g) (v.node g.to)
 
--- a tick is noted where it is given
+-- a tick is noted when it is given
 abbrev pub ticked_by : Input → ℤ → ℤ → ℤ
 ticked_by TickInput time before = time
 ticked_by _ time before = before

@@ -1,5 +1,5 @@
--- What the histories of a link's two ends tell of each of its ports, and how they are judged, after every event of every run
--- (this project's profile).
+-- What the histories of a link's two ends show of each of its ports, and how they are judged, after every event of
+-- every run (this project's profile).
 use Rattle.std.specs.Prelude.{◌≡◌, ◌≢◌, ℕ, List, Some, Result, Ok, Err}
 use Rattle.wrp_base.specs.declared.link.LinkState.TheVariants.{LinkOn}
 use Rattle.wrp_base.specs.Link.{other_of}
@@ -14,7 +14,7 @@ use Rattle.wrp_course.specs.SameHandshake.{state_at}
 use Rattle.wrp_course.specs.Setting.{Setting, place_of}
 use Rattle.wrp_course.specs.WorldAt.{WorldAt}
 
--- the verdict that is due for an end of a link, by the histories of both ends
+-- the verdict that is expected for an end of a link, from the histories of both ends
 abbrev pub IsDue : WorldAt → Place → Result Unit Verdict → Type 0
 IsDue w place verdict =
     Judges place.role (w.end_at place.link place.role).marks (w.end_at place.link (other_of place.role)).marks verdict

@@ -16,7 +16,7 @@ use Rattle.wrp_course.specs.Setting.{Setting, above, end_at, entry_at, link_of, 
 use Rattle.wrp_course.specs.Views.{history_of, waiting_of, tick_due, IsNextArrival, kept_count, octets_at, sender_of}
 use Rattle.wrp_course.specs.WorldAt.{WorldAt, FrameAt, new_world, phase_of, reading}
 
--- an event is accepted exactly where no check is the first that fails
+-- an event is accepted if and only if no check is the first that fails
 abbrev pub AcceptedIsUnbroken : Type 0
 AcceptedIsUnbroken =
     (s : Setting) (w : WorldAt) (says : Result PtpMsg FrameFault) (e : Event) →

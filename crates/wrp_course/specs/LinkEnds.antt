@@ -35,6 +35,6 @@ abbrev pub ends_at : Setting → WorldAt → ℕ → LinkCfg → BothPorts
 ends_at s w k link =
     record { time = w.time; master = port_at s w k Master (end_of Master link); slave = port_at s w k Slave (end_of Slave link) }
 
--- the entry of the module in place at an end, where it is listed there
+-- the entry of the module in place at an end, if it is listed there
 abbrev pub in_place : Setting → WorldAt → ℕ → Role → Option Module
 in_place s w k r = entry_at s k r (w.end_at k r).name

@@ -86,13 +86,13 @@ abbrev pub is_place : Option Place → ℕ → Role → Bool
 is_place None k r = false
 is_place (Some place) k r = (place.link == k) && is_role place.role r
 
--- the frames that still wait once the oldest departed
+-- the frames that still wait after the oldest departed
 abbrev pub behind_first : List Sending → List Sending
 behind_first [] = []
 behind_first (first ∷ rest) = rest
 
--- an end of a link after an event: a Depart at its port takes the oldest waiting frame from it; an Up of its node swaps the
--- module if a swap names its port; where the link loses its frames (Down of a node at it, Cut), none waits any more
+-- an end of a link after an event: a Depart at its port takes the oldest waiting frame from it; an Up of its node swaps
+-- the module if a swap names its port; if the link loses its frames (Down of a node at it, Cut), none waits any more
 abbrev pub end_after : Setting → WorldAt → Event → ℕ → Role → EndAt
 end_after s w (Depart n p stamp) k r =
     if is_place (place_of s n p) k r
@@ -137,7 +137,7 @@ arriving s w j raw g i f =
       gone = f.gone || (is_on_fibre (Some f) && (nat_lt i j && ((f.link == g.link) && is_role f.by g.by)));
     }
 
--- the frame of number i after the arrival of frame j; nothing changes where there is no frame j, or none of number i
+-- the frame of number i after the arrival of frame j; nothing changes if there is no frame j, or none of number i
 abbrev pub arrived : Setting → WorldAt → ℕ → Raw → Option FrameAt → ℕ → Option FrameAt → Option FrameAt
 arrived s w j raw (Some g) i (Some f) = Some (arriving s w j raw g i f)
 arrived s w j raw _ i f = f
@@ -146,8 +146,9 @@ arrived s w j raw _ i f = f
 abbrev pub removed : Setting → Event → FrameAt → FrameAt
 removed s e f = record f { gone = f.gone || (loses s e f.link && is_on_fibre (Some f)) }
 
--- the frame of number i after an event: a Depart gives the oldest that waits the next number; an Arrive notes the arrival and
--- removes the older frames of its direction from the fibre; where the link loses its frames (Down, Cut), they never arrive
+-- the frame of number i after an event: a Depart gives the oldest that waits the next number; an Arrive notes the
+-- arrival and removes the older frames of its direction from the fibre; if the link loses its frames (Down, Cut), they
+-- never arrive
 abbrev pub frame_after : Setting → WorldAt → Event → ℕ → Option FrameAt
 frame_after s w (Depart n p stamp) i = departing w (place_of s n p) stamp (waiting_at w (place_of s n p)) i
 frame_after s w (Arrive j raw) i = arrived s w j raw (w.frame j) i (w.frame i)

@@ -27,7 +27,7 @@ pub record PeersStay (s : Setting) (w : WorldAt) (k : ℕ) (link : LinkCfg) : Ty
       (at : ℤ) → Moved (port_at s w k Master (end_of Master link)) LOCKED at →
       AllByRecursion (λ mark. mark.from ≡ Present → mark.to ≡ SLock → mark.at ≤ℤ at) (w.end_at k Slave).marks
 
--- so it is with each link, after every event of every run
+-- this holds of each link, after every event of every run
 abbrev pub PeersStayInTheHandshake : Type 0
 PeersStayInTheHandshake =
     (s : Setting) (events : List Happened) (k : ℕ) (link : LinkCfg) → IsRun s events → link_of s k ≡ Some link →

@@ -18,7 +18,7 @@ use Rattle.wrp_course.specs.Setting.{Setting, end_of, link_of}
 abbrev pub port_after : Setting → ℕ → Role → LinkCfg → List Happened → Port
 port_after s k r link events = port_at s (world_after s events) k r (end_of r link)
 
--- an event by which the carrier of a link can come: the link is joined, or the node at one of its ends comes up
+-- an event in which the carrier of a link can come: the link is joined, or the node at one of its ends comes up
 abbrev pub MayLight : ℕ → LinkCfg → Event → Type 0
 MayLight k link (Join l ms sm) = l ≡ k
 MayLight k link (Up n off swaps) = (n ≡ link.upper) ⊎ (n ≡ link.lower)
@@ -36,7 +36,7 @@ pub record LitLongAgo (s : Setting) (k : ℕ) (r : Role) (link : LinkCfg) (event
   pub stood : (newer older : List Happened) → since ≡ newer ++ older → (port_after s k r link (older ++ event ∷ before)).link.carrier ≡ true
   pub long : IsLongAgo (frame_life s.cfg) (world_after s events).time (world_after s (event ∷ before)).time
 
--- the marks of the end of a link by which its port left a stretch are older than two lives of a frame
+-- the marks of the end of a link with which its port left a stretch are older than two lives of a frame
 abbrev pub LeftLongAgo : Setting → ℕ → Role → List Happened → Type 0
 LeftLongAgo s k r events =
     AllByRecursion (λ mark. mark.to ≡ Idle → IsLongAgo (frame_life s.cfg) (world_after s events).time mark.at)

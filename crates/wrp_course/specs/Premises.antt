@@ -48,7 +48,7 @@ early_by least now clock = only_where clock.up (at_least 1 (now -ℤ clock.ticke
 abbrev pub tick_early : Setting → WorldAt → ℕ → Check
 tick_early s w n = early_by (pos (shortest_tick s.cfg)) w.time (w.clock n)
 
--- 2, TickLate: no time passes to more than dmax past an up node's last tick, or its Up
+-- 2, TickLate: time does not pass to more than dmax after an up node's last tick, or its Up
 abbrev pub late_by : (most after : ℤ) → ClockState → Check
 late_by most after clock = only_where clock.up (at_most 2 (after -ℤ clock.ticked) most)
 
@@ -70,12 +70,12 @@ rate_of s w n =
 abbrev pub moves_at : ℕ → ℤ → ℤ → ℕ → Check
 moves_at premise move dt rate = at_most premise (pos (unsigned_abs move * parts)) (pos (rate * unsigned_abs dt))
 
--- the check of a clock that drifts so far, in tau, while dt tau pass: no check if it has no rate to keep
+-- the check of a clock that drifts this far, in tau, while dt tau pass: no check if it has no rate to keep
 abbrev pub rate_checks : ℤ → ℤ → Option ℕ → List Check
 rate_checks drift dt None = []
 rate_checks drift dt (Some rate) = moves_at 3 drift dt rate ∷ []
 
--- the check of a node's clock in a Pass: its drift, against the rate that the node's state asks of it
+-- the check of a node's clock in a Pass: its drift, against the rate that the node's state requires of it
 abbrev pub rate_kept : Setting → WorldAt → ℤ → List ℤ → ℕ → List Check
 rate_kept s w dt drifts n = rate_checks (drift_of drifts n) dt (rate_of s w n)
 
@@ -83,7 +83,7 @@ rate_kept s w dt drifts n = rate_checks (drift_of drifts n) dt (rate_of s w n)
 abbrev pub true_at_top : Setting → ℕ → ℤ → Check
 true_at_top s n off = only_where (not (is_some (link_above s.cfg n))) (at_most 3 (size_of off) (pos 0))
 
--- 4, FibreRate: a one-way delay moves at most at a rate of 2, the way down told first
+-- 4, FibreRate: a one-way delay moves at most at a rate of 2; the way down comes first
 abbrev pub rate_of_fibre : ℤ → ℤ × ℤ → List Check
 rate_of_fibre dt move = moves_at 4 move.0 dt 2 ∷ (moves_at 4 move.1 dt 2 ∷ [])
 
@@ -115,7 +115,7 @@ fibre_checks s v k link = fibre_by (pos (reach s.cfg)) (v.fibre k) (delay_from v
 abbrev pub fibre_kept : Setting → WorldAt → ℕ → List Check
 fibre_kept s v k = map (only_where (v.fibre k).joined) (option_map_or (fibre_checks s v k) (link_of s k) [])
 
--- 6, Module: the true delays of a listed module are within its error of its entry, the transmission told first
+-- 6, Module: the true delays of a listed module are within its error of its entry; the transmission delay comes first
 
 -- the checks of a swap against the database entry of its module: both delays and the entry's error are in tau
 abbrev pub listed_checks : Swap → Module → List Check
@@ -152,10 +152,10 @@ depart_checks s w n stamp (Some place) (oldest ∷ rest) =
     at_most 7 (size_of (stamp -ℤ reading w n)) (pos (of_node (λ node. node.e_tx) s n))
     ∷ (too_old s.cfg w.time oldest ∷ (needs (has_carrier s w place.link) ∷ []))
 
--- 8, RxRaw: a frame arrives when it is due; its tag is within e_tag of the true place in the period, and each counter is
--- right where a merge may use it
+-- 8, RxRaw: a frame arrives when it is due; its tag is within e_tag of the true place in the period, and each counter
+-- is right if a merge may use it
 
--- where a merge may use the rising counter, and the falling one
+-- whether a merge may use the rising counter, and the falling one
 abbrev pub may_rise : Clock → (e_tag place : ℕ) → Bool
 may_rise clock e_tag place =
     nat_le (quarter_of clock) (place + e_tag) && nat_lt place (3 * quarter_of clock + e_tag)
@@ -164,12 +164,12 @@ may_rise clock e_tag place =
 abbrev pub may_fall : Clock → (e_tag place : ℕ) → Bool
 may_fall clock e_tag place = nat_lt place (quarter_of clock + e_tag) || nat_le (3 * quarter_of clock) (place + e_tag)
 
--- a counter is off by so much from what it is to be
+-- a counter is off by this much from what it should be
 abbrev pub counter_check : ℕ → ℤ → Check
 counter_check counter due = at_most 8 (size_of (pos counter -ℤ due)) (pos 0)
 
--- the checks of a raw stamp where the node's true reading is `at`, in tau: of its tag, and of each counter where a merge may use
--- it: the rising one has the whole periods of the reading, the falling one those of half a period later
+-- the checks of a raw stamp if the node's true reading is `at`, in tau: of its tag, and of each counter if a merge may
+-- use it: the rising one has the whole periods of the reading, the falling one the whole periods of half a period later
 abbrev pub raw_checks : Clock → (e_tag transition : ℕ) → ℤ → Raw → List Check
 raw_checks clock e_tag transition at raw =
     at_most 8
@@ -208,12 +208,12 @@ is_wrong steps beat bits i =
     (lt_z (pos i) (steps -ℤ pos beat) && not (beat_bit bits i == 0))
     || (le_z (steps +ℤ pos beat) (pos i) && not (beat_bit bits i == 1))
 
--- the check of bit i, the most significant first, where the true step is so many steps past the base
+-- the check of bit i, the most significant first, if the true step is this many steps past the base
 abbrev pub bit_check : ℤ → (beat bits i : ℕ) → Check
 bit_check steps beat bits i =
     record { premise = 9; fails = is_wrong steps beat bits i; shown = pos i; bound = steps }
 
--- of a sample's base and bits, where the true phase is this
+-- of a sample's base and bits, if the true phase is this
 abbrev pub beat_by : Clock → (beat base bits : ℕ) → ℤ → List Check
 beat_by clock beat base bits phase = map (bit_check (steps_past (true_step clock phase) base) beat bits) (from_on 64 0)
 
@@ -222,8 +222,8 @@ abbrev pub beat_checks : Setting → WorldAt → (n base bits k : ℕ) → LinkC
 beat_checks s w n base bits k link =
     beat_by s.cfg.clock (of_node (λ node. node.beat) s n) base bits (phase_of w k link)
 
--- the checks of a Sample: a node without a link above, such as the grandmaster, breaks 13; else the link above has its carrier
--- (13), and where it has, no beat bit is wrong (9, tried first)
+-- the checks of a Sample: a node without a link above, such as the grandmaster, breaks 13; else the link above has its
+-- carrier (13), and if it has, no beat bit is wrong (9, tried first)
 abbrev pub sample_checks : Setting → WorldAt → (n base bits : ℕ) → Option ℕ → List Check
 sample_checks s w n base bits None = needs false ∷ []
 sample_checks s w n base bits (Some k) =

@@ -45,8 +45,8 @@ database = record {
   fibres = record { name = codes "smf"; fibre = record { kappa = pos 73_622_176; err = 1_310_720 }; table = None } ∷ [];
 }
 
--- a node of the file without keys: send stamps to within 10 ps, tags to within 64,000 tau, 4 beat steps on either side, and a
--- clock rate of 500 * 10^-12 where it is locked, of 10 * 10^-12 in HOLDOVER
+-- a node of the file without keys: send stamps to within 10 ps, tags to within 64,000 tau, 4 beat steps on either side,
+-- and a clock rate of 500 * 10^-12 when it is locked, of 10 * 10^-12 in HOLDOVER
 abbrev pub node_cfg : List ℕ → ℕ → NodeCfg
 node_cfg name identity = record {
   name = record { bytes = name; spare = [] };

@@ -38,7 +38,7 @@ abbrev pub AllAccepted : Setting → List Happened → Type 0
 AllAccepted s [] = Unit {0}
 AllAccepted s (h ∷ before) = Accepts s (world_after s before) h.says h.event × AllAccepted s before
 
--- what is noted beside the octets of a Noise is what they say
+-- what is noted with the octets of a Noise is what they say
 abbrev pub IsSaid : Event → Result PtpMsg FrameFault → Type 0
 IsSaid (Noise n p octets raw) says = Says octets.items says
 IsSaid _ says = Unit {0}
@@ -48,7 +48,7 @@ abbrev pub AllSaid : List Happened → Type 0
 AllSaid [] = Unit {0}
 AllSaid (h ∷ before) = IsSaid h.event h.says × AllSaid before
 
--- the laws of the links may answer so, by the node below each
+-- the laws of the links may give these answers, by the node below each
 abbrev pub IsAnswered : (ℕ → ℤ → ℤ → Type 0) → Setting → WorldAt → Type 0
 IsAnswered answers s w = (n : ℕ) → AllAnswered (answers n) (servo_setting_of (node_setting_of s n)) (w.node n).calls
 

@@ -29,21 +29,21 @@ pub record HasTimes (w : WorldAt) (f : FrameAt) : Type 0 where
   pub departed_before : f.moment ≤ w.count
   pub arrived : IfSome f.arrival (λ a. (f.at ≤ℤ a.at) × (a.at ≤ℤ w.time) × (f.moment ≤ a.moment) × (a.moment ≤ w.count) × (a.at ≡ f.due))
 
--- so it is with each frame that departed, after every event of every run
+-- this holds of each frame that departed, after every event of every run
 abbrev pub FramesHaveTimes : Type 0
 FramesHaveTimes =
     (s : Setting) (events : List Happened) (i : ℕ) (f : FrameAt) → IsRun s events → (world_after s events).frame i ≡ Some f →
     HasTimes (world_after s events) f
 
--- what an event makes of the time of a node's last tick, or of its start: it stays, or the node ticks, no sooner than dmin
--- after that time, or it starts
+-- what an event does to the time of a node's last tick, or of its start: it stays, or the node ticks, no sooner than
+-- dmin after that time, or it starts
 abbrev pub TickOrStart : (least : ℕ) → (n : ℕ) → (old now : ℤ) → Event → Type 0
 TickOrStart least n old now (Tick m) = (m ≡ n) × ((old +ℤ pos least) ≤ℤ now)
 TickOrStart least n old now (Up m off swaps) = m ≡ n
 TickOrStart least n old now _ = ⊥
 
--- in every event of every run, the time of a node's last tick or start stays as it was, or is now, since the node ticks, no
--- sooner than dmin after its last, or starts
+-- in every event of every run, the time of a node's last tick or start stays as it was, or becomes the present time
+-- because the node ticks, no sooner than dmin after its last tick or start, or starts
 abbrev pub TicksAreApart : Type 0
 TicksAreApart =
     (s : Setting) (h : Happened) (before : List Happened) (n : ℕ) → IsRun s (h ∷ before) →
@@ -57,7 +57,7 @@ pub record SameModule (old new : EndAt) : Type 0 where
   pub tx : new.tx ≡ old.tx
   pub rx : new.rx ≡ old.rx
 
--- at the ends of a link that has its carrier the modules stay
+-- while a link has its carrier, the modules at its ends stay
 abbrev pub ModulesStay : Type 0
 ModulesStay =
     (s : Setting) (h : Happened) (before : List Happened) (k : ℕ) (r : Role) → IsRun s (h ∷ before) →

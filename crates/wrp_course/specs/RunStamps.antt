@@ -27,7 +27,7 @@ pub record DepartedSo (s : Setting) (events : List Happened) (f : FrameAt) : Typ
   pub carried : has_carrier s (world_after s older) f.link ≡ true
   pub due : f.due ≡ f.at +ℤ delay_from (world_after s older) f.link f.by
 
--- a frame arrived at the other end with a raw stamp that keeps the stamp bound about the reading of the node there, told
+-- a frame arrived at the other end with a raw stamp that keeps the stamp bound about the reading of the node there, and
 -- with the number of that node's last sample, over a link that had its carrier
 pub record ArrivedSo (s : Setting) (events : List Happened) (f : FrameAt) (a : Arrival) : Type 0 where
   pub older : List Happened
@@ -40,7 +40,7 @@ pub record ArrivedSo (s : Setting) (events : List Happened) (f : FrameAt) (a : A
   pub sample : a.sample ≡ ((world_after s older).clock end.node).samples
   pub carried : has_carrier s (world_after s older) f.link ≡ true
 
--- each frame that departed in a run departed so, and each that arrived arrived so
+-- each frame that departed in a run departed like this, and each that arrived arrived like this
 abbrev pub FramesAreStamped : Type 0
 FramesAreStamped =
     (s : Setting) (events : List Happened) (i : ℕ) (f : FrameAt) → IsRun s events → (world_after s events).frame i ≡ Some f →

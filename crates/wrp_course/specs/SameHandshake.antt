@@ -22,7 +22,7 @@ use Rattle.wrp_course.specs.WorldAt.{WorldAt, has_carrier}
 abbrev pub state_at : Setting → WorldAt → (n p : ℕ) → LinkState
 state_at s w n p = (link_at (s.set n) (w.node n) p).state
 
--- the histories of the two ends of a link tell that the end of this role is in the same handshake as its peer
+-- the histories of the two ends of a link show that the end of this role is in the same handshake as its peer
 abbrev pub IsInTheSameHandshake : WorldAt → Place → Type 0
 IsInTheSameHandshake w place =
     SameHandshake place.role (w.end_at place.link place.role).marks (w.end_at place.link (other_of place.role)).marks
@@ -40,13 +40,13 @@ LinkOnInTheSameHandshake =
     (s : Setting) (events : List Happened) (n p : ℕ) (place : Place) → IsRun s events → place_of s n p ≡ Some place →
     state_at s (world_after s events) n p ≡ LinkOn → IsInTheSameHandshake (world_after s events) place
 
--- carriers come and go at both ends of a link in the same event: a port has its carrier exactly where its link has
+-- carriers come and go at both ends of a link in the same event: a port has its carrier if and only if its link has
 abbrev pub CarriersAreTheLinks : Type 0
 CarriersAreTheLinks =
     (s : Setting) (events : List Happened) (k : ℕ) (r : Role) (link : LinkCfg) → IsRun s events → link_of s k ≡ Some link →
     (port_at s (world_after s events) k r (end_of r link)).link.carrier ≡ has_carrier s (world_after s events) k
 
--- a port has its carrier only where its link has, and then its module is the one in place
+-- a port has its carrier only if its link has, and then its module is the one in place
 abbrev pub CarriersWithTheirModules : Type 0
 CarriersWithTheirModules =
     (s : Setting) (events : List Happened) (k : ℕ) (r : Role) (link : LinkCfg) → IsRun s events → link_of s k ≡ Some link →
@@ -54,7 +54,7 @@ CarriersWithTheirModules =
     (has_carrier s (world_after s events) k ≡ true)
     × ((port_at s (world_after s events) k r (end_of r link)).link.own_module ≡ in_place s (world_after s events) k r)
 
--- a slave in WR_LINK_ON knows the deltas of the modules that are now in place at both ends, and its master's were told in
+-- a slave in WR_LINK_ON knows the deltas of the modules that are now in place at both ends, and its master's came in
 -- that same handshake
 abbrev pub LinkOnWithTheDeltas : Type 0
 LinkOnWithTheDeltas =

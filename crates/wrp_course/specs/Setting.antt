@@ -1,4 +1,4 @@
--- What no event of a world changes: its network, and what stands where in it, by number (this project's profile).
+-- What no event of a world changes: its network, and what is where in it, by number (this project's profile).
 use Rattle.std.specs.Prelude.{ℕ, zero, suc, ℤ, ◌+◌, ◌==◌, ◌*ℤ◌, Bool, true, false, if◌then◌else◌, List, [], ◌∷◌, length, Option, None, Some, option_map, option_and_then, slice_get}
 use Rattle.std.specs.List.{position, list_any}
 use Rattle.std.specs.Option.{option_map_or}
@@ -30,7 +30,7 @@ pub record Setting : Type 0 where
 abbrev pub node_setting_of : Setting → ℕ → NodeSetting
 node_setting_of s n = record { set = s.set n; lo = s.lo n; hi = s.hi n }
 
--- so many numbers, ascending from the first of them
+-- this many numbers, ascending from the first of them
 abbrev pub from_on : (count first : ℕ) → List ℕ
 from_on zero first = []
 from_on (suc count) first = first ∷ from_on count (first + 1)
@@ -82,7 +82,7 @@ abbrev pub sends_nm : Role → LinkCfg → ℕ
 sends_nm Master link = link.down_nm
 sends_nm Slave link = link.up_nm
 
--- the numbers of a module at an end of a link, where it is listed there
+-- the numbers of a module at an end of a link, if it is listed there
 abbrev pub entry_at : Setting → ℕ → Role → List ℕ → Option Module
 entry_at s k r name =
     option_and_then (λ link. module_at s.db name (sends_nm r link) (sends_nm (other_of r) link)) (link_of s k)
@@ -104,7 +104,7 @@ place_of s n p = place_among n p 0 s.cfg.links.items
 abbrev pub above : Setting → ℕ → Option ℕ
 above s n = position (λ link. link.lower == n) s.cfg.links.items
 
--- whether a number is that of a port of a node
+-- whether a node has a port of this number
 abbrev pub has_port : NetCfg → (n p : ℕ) → Bool
 has_port cfg n p = list_any (λ q. q == p) (numbers_of (set_of cfg n))
 

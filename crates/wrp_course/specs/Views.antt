@@ -1,4 +1,4 @@
--- What is asked of a world (this project's profile).
+-- What can be asked of a world (this project's profile).
 use Rattle.std.specs.Prelude.{◌≡◌, ◌⊎◌, ◌||◌, ℕ, ℤ, pos, ◌+ℤ◌, ◌-ℤ◌, ◌<ℤ◌, ◌≤◌, Bool, true, false, if◌then◌else◌, List, [], ◌∷◌, count_by, reverse, Option, None, Some, option_map, option_and_then}
 use Rattle.std.specs.Int.Signed.{le_z}
 use Rattle.wrp_base.specs.declared.link.Mark.{Mark}
@@ -42,18 +42,18 @@ IsNextArrival w (Some next) =
     (f : FrameAt) × (w.frame next.0 ≡ Some f) × (is_on_fibre (w.frame next.0) ≡ true) × (f.due ≡ next.1)
     × ((j : ℕ) (g : FrameAt) → w.frame j ≡ Some g → is_on_fibre (w.frame j) ≡ true → IsNoSooner next.0 next.1 j g)
 
--- Of which frames a world still tells: of those that are kept
+-- Which frames a world still shows: those that are kept
 
--- a frame is kept while it is on a fibre, and as long as it was put out at most a frame's life ago
+-- a frame is kept while it is on a fibre, and for as long as it was put out at most a frame's life ago
 abbrev pub is_kept : Setting → WorldAt → Option FrameAt → Bool
 is_kept s w None = false
 is_kept s w (Some f) = is_on_fibre (Some f) || le_z (w.time -ℤ f.sending.at) (pos (frame_life s.cfg))
 
--- the frame of a number, where it is kept
+-- the frame of a number, if it is kept
 abbrev pub kept_frame : Setting → WorldAt → ℕ → Option FrameAt
 kept_frame s w i = if is_kept s w (w.frame i) then w.frame i else None
 
--- how many of the numbers that were given, from 1 on, are those of frames that are kept
+-- how many of the numbers that were given, from 1 on, are numbers of frames that are kept
 abbrev pub kept_count : Setting → WorldAt → ℕ
 kept_count s w = count_by (λ i. is_kept s w (w.frame i)) (from_on w.departed 1)
 

@@ -15,7 +15,7 @@ use Rattle.wrp_course.specs.declared.clocks.ClockState.{ClockState}
 use Rattle.wrp_course.specs.declared.fibres.FibreState.{FibreState}
 use Rattle.wrp_course.specs.Setting.{Setting, link_of, start_of, entry_at}
 
--- a frame that was put out: at which true time, and by which event; events are counted from 1
+-- a frame that was put out: at which true time, and in which event; events are counted from 1
 pub record Sending : Type 0 where
   pub message : PtpMsg
   pub at : ℤ
@@ -40,7 +40,7 @@ pub record FrameAt : Type 0 where
   -- when it arrives, if it does
   pub due : ℤ
   pub arrival : Option Arrival
-  -- it never arrives any more
+  -- it can no longer arrive
   pub gone : Bool
 
 -- an end of a link
@@ -115,7 +115,7 @@ abbrev pub ends_are_up : (ℕ → ClockState) → Option LinkCfg → Bool
 ends_are_up clock None = false
 ends_are_up clock (Some link) = (clock link.upper).up && (clock link.lower).up
 
--- a link has its carrier where it is joined and both its nodes are up
+-- a link has its carrier if it is joined and both its nodes are up
 abbrev pub has_carrier : Setting → WorldAt → ℕ → Bool
 has_carrier s w k = (w.fibre k).joined && ends_are_up w.clock (link_of s k)
 

@@ -1,4 +1,4 @@
-//! What is told of the first comparison of a premise that fails.
+//! What is reported of the first comparison of a premise that fails.
 use wrp_base::Tau;
 
 /// A premise that an event breaks, with the two sides of the comparison that fails.

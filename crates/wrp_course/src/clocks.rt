@@ -8,7 +8,7 @@ pub struct ClockState {
     pub up: bool,
     /// The clock's reading minus true time, in tau.
     pub off: Tau,
-    /// The true time of the node's last tick, or of its coming up where no tick came since.
+    /// The true time of the node's last tick, or of its coming up if no tick came since.
     pub ticked: Tau,
     /// The samples since the node came up.
     pub samples: u32,

@@ -79,7 +79,7 @@ pub enum Event {
         /// The node.
         node: u8,
     },
-    /// A node comes up, maybe with other modules.
+    /// A node comes up, possibly with other modules.
     Up {
         /// The node.
         node: u8,

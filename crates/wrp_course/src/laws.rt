@@ -3,12 +3,12 @@ ghost use Rattle.wrp_course.specs.Laws.{AcceptedIsUnbroken, NewWorldIsStill, Arr
 ghost use Rattle.wrp_course.specs.Rows.{WorkedRows};
 
 /// A network of a grandmaster and a switch, computed: which premise its first events break, with both
-/// sides, and what the nodes are given where a carrier comes.
+/// sides, and what the nodes are given when a carrier comes.
 pub fn worked_rows()
     ensures { WorkedRows }
 {}
 
-/// An event keeps all premises exactly where no check of them is the first that fails.
+/// An event keeps all premises if and only if no check of them is the first that fails.
 pub fn accepted_is_unbroken()
     ensures { AcceptedIsUnbroken }
 {}

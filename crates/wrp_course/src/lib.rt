@@ -1,7 +1,7 @@
-//! The course of a world: what a network of nodes over true time is, what each event changes of it and gives
-//! its nodes, the thirteen premises under which an event may come, and what holds in every run of such events
-//! (this project's profile). Definitions, laws, and the few types that they speak of: the code of a world stands
-//! above.
+//! The course of a world: what a network of nodes over true time is, what each event changes of it and gives its
+//! nodes, the thirteen premises under which an event may come, and what holds in every run of such events (this
+//! project's profile). This crate has the definitions, the laws, and the few types that they name: the code of a
+//! world is in the crates above.
 #![tactic(auto)]
 
 mod breach;

@@ -60,7 +60,8 @@ fn is_lower_end(link: &LinkCfg, n: u8, port: u16) -> bool
     link.lower == n && link.lower_port == port
 }
 
-/// The end that a port of a node is. `None` exactly where no link has that port; `cfg` is only read.
+/// The end that a port of a node is. `None` if and only if no link has that port; `cfg` is only
+/// read.
 pub fn place_of(cfg: &NetCfg, n: u8, port: u16) -> Option<Place>
     ensures value { result ≡ place_among n port 0 cfg.now.links.items }
     ensures within { IfSome result (λ place. place.link < length cfg.now.links.items) }

@@ -1,5 +1,5 @@
 //! Laws of every run of an accepted network: functions whose contracts are the laws, and whose bodies call
-//! the laws that they stand on.
+//! the laws that they rest on.
 ghost use Rattle.wrp_course.specs.Dropped.{DroppedFramesLeaveACount};
 ghost use Rattle.wrp_course.specs.Earned.{EveryLinkOnIsEarned, ReportsAreTrue};
 ghost use Rattle.wrp_course.specs.FramesMayCome.{FramesMayCome};
@@ -28,10 +28,10 @@ use wrp_node::{
 ///
 /// - No port is in WR_LINK_ON unless its peer went through the steps that this requires, in that same
 ///   handshake.
-/// - A slave in WR_LINK_ON knows the deltas of the modules that are in place at both ends, and its
-///   master's were told in that handshake.
-/// - A port has its carrier exactly where its link has, at both ends in the same event, and then its
-///   module is the one in place.
+/// - A slave in WR_LINK_ON knows the deltas of the modules that are in place at both ends, and its master's
+///   came in that handshake.
+/// - A port has its carrier if and only if its link has, at both ends in the same event, and then its module
+///   is the one in place.
 pub fn link_on_in_the_same_handshake()
     ensures links { LinksCanBe }
     ensures handshake { LinkOnInTheSameHandshake }
@@ -60,8 +60,8 @@ pub fn peers_stay_in_the_handshake()
 }
 
 /// A port that has its carrier, and whose quiet time is over, got the carrier more than two lives of a frame
-/// ago: by an event that joined its link, or that brought up a node of it, since which the carrier stood. And
-/// it left no stretch of its link within that time.
+/// ago: in an event that joined its link, or that brought up a node of it, and the carrier was there ever
+/// since. The port also left no stretch of its link within that time.
 pub fn ports_wake_late()
     ensures lit { AwakePortsWereLitLongAgo }
     ensures left { AwakePortsLeftLongAgo }
@@ -74,9 +74,9 @@ pub fn ports_wake_late()
     quiet_time_outlives_frames();
 }
 
-/// Each port in WR_LINK_ON has earned it, after every event of every run: its peer passed the required
-/// steps of that same handshake, and a slave knows the deltas of the modules that are in place. And
-/// whatever port a node reports to be in WR_LINK_ON in an event is there after it, and has earned it.
+/// Each port in WR_LINK_ON has earned it, after every event of every run: its peer passed the required steps
+/// of that same handshake, and a slave knows the deltas of the modules that are in place. Any port that a
+/// node reports to be in WR_LINK_ON in an event is there after it, and has earned it.
 pub fn reported_link_on_is_earned()
     ensures earned { EveryLinkOnIsEarned }
     ensures reports { ReportsAreTrue }
@@ -85,12 +85,12 @@ pub fn reported_link_on_is_earned()
     link_on_in_the_same_handshake();
 }
 
-/// Each port is in the state to which its marks lead, after every event of every run, and they are a
-/// history: each is a change of the state to which those before it led. The verdict that is due for the
-/// histories of both ends of its link is Ok where the port is in WR_LINK_ON, and NotOn elsewhere.
+/// Each port is in the state to which its marks lead, after every event of every run, and they are a history:
+/// each is a change of the state to which those before it led. The verdict that is expected for the histories
+/// of both ends of its link is Ok if the port is in WR_LINK_ON, and NotOn otherwise.
 ///
-/// So whoever has a world with a port in WR_LINK_ON, and gives `judge` what `World::history` answers for
-/// that port and for its peer, gets Ok.
+/// So if a world has a port in WR_LINK_ON, and `judge` is given what `World::history` answers for that port
+/// and for its peer, `judge` answers Ok.
 pub fn ports_are_judged()
     ensures { PortsAreJudged }
 {
@@ -98,9 +98,9 @@ pub fn ports_are_judged()
     marks_are_a_history();
 }
 
-/// A frame that a node drops for one of the reasons 1 to 12, as no message or as a foreign one, raises
-/// one counter of that node. In the event that hands it over nothing else changes, of no node and of
-/// nothing between the nodes, and nothing is put out.
+/// A frame that a node drops for one of the reasons 1 to 12, as no message or as a foreign one, raises one
+/// counter of that node. In the event that hands it over nothing else changes, neither in a node nor between
+/// the nodes, and nothing is put out.
 pub fn dropped_frames_leave_a_count()
     ensures { DroppedFramesLeaveACount }
 {
@@ -133,7 +133,7 @@ pub fn frames_are_stamped()
     arrival_keeps_stamp_bound();
 }
 
-/// Each frame that can still be handed over, now or behind further events, was put out at most a frame's life
+/// Each frame that can still be handed over, now or after further events, was put out at most a frame's life
 /// ago: in a step of its sender's node, in the event and in the world of that time, the node sent the frame's
 /// octets at the sender's port.
 pub fn frames_may_come()
@@ -144,13 +144,13 @@ pub fn frames_may_come()
     frames_are_stamped();
 }
 
-/// The time of a node's last tick, or of its start, stays in an event, or the node ticks, no sooner than
-/// dmin after it, or starts.
+/// In an event the time of a node's last tick, or of its start, stays as it was, or the node ticks, no sooner
+/// than dmin after it, or the node starts.
 pub fn ticks_are_apart()
     ensures { TicksAreApart }
 {}
 
-/// At the ends of a link that has its carrier the modules stay, with their true delays.
+/// While a link has its carrier, the modules at its ends stay, with their true delays.
 pub fn modules_stay()
     ensures { ModulesStay }
 {}

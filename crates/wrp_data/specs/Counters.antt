@@ -8,7 +8,7 @@ use Rattle.wrp_data.specs.Reason.{number_of, reasons}
 abbrev pub no_counts : List ℕ
 no_counts = replicate 15 0
 
--- the greatest number that a counter comes to
+-- the greatest number that a counter reaches
 abbrev pub greatest_count : ℕ
 greatest_count = 2 ^ 32 - 1
 
@@ -16,7 +16,7 @@ greatest_count = 2 ^ 32 - 1
 abbrev pub count_at : List ℕ → ℕ → ℕ
 count_at counters reason = slice_index counters (reason - 1)
 
--- the counters once a reason was counted: its own is raised by one, up to the greatest number
+-- the counters after a reason was counted: its own is raised by one, up to the greatest number
 abbrev pub counts_after : List ℕ → ℕ → List ℕ
 counts_after counters reason =
     slice_set counters (reason - 1) (min (count_at counters reason + 1) greatest_count)
@@ -25,12 +25,13 @@ counts_after counters reason =
 abbrev pub times_among : List ℕ → ℕ → ℕ
 times_among counted reason = min (count_by (λ r. r == reason) counted) greatest_count
 
--- the counters stand for the reasons that were counted, newest first: each is how often its own reason was
+-- the counters stand for the reasons that were counted, newest first: each is the number of times that its own reason
+-- was counted
 pub record StandsFor (counters counted : List ℕ) : Type 0 where
   pub one_each : length counters ≡ 15
   pub times : (reason : ℕ) → 1 ≤ reason → reason ≤ 15 → count_at counters reason ≡ times_among counted reason
 
--- some reasons, each with its counter, where that is not 0
+-- some reasons, each with its counter, if that is not 0
 abbrev pub nonzero_among : List Reason → List ℕ → List (Reason × ℕ)
 nonzero_among some counters =
     filter (λ c. nat_lt 0 c.1) (map (λ reason. (reason, count_at counters (number_of reason))) some)

@@ -21,7 +21,7 @@ number_of Unmatched = 13
 number_of Range = 14
 number_of Sample = 15
 
--- where there is a number, it is the number of a reason: 1 to 15
+-- if there is a number, it is the number of a reason: 1 to 15
 abbrev pub IsReason : Option ℕ → Type 0
 IsReason reason = IfSome reason (λ number. (1 ≤ number) × (number ≤ 15))
 

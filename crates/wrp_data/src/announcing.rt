@@ -1,4 +1,4 @@
-//! What a master port tells in its Announce: the body, and the wrFlags of the suffix.
+//! What a master port sends in its Announce: the body, and the wrFlags of the suffix.
 ghost use Rattle.std.specs.Prelude.{◌≡◌};
 ghost use Rattle.wrp_data.specs.Announce.{announce_body, suffix_flags};
 
@@ -42,8 +42,8 @@ pub fn announce_of(node: &DefaultDs, suffix: Option<u16>) -> Body
     }
 }
 
-/// The wrFlags of a master port's suffix: wrConfig 1 (master only), calibrated where the module is
-/// known, wrModeOn where the link is on.
+/// The wrFlags of a master port's suffix: wrConfig 1 (master only), calibrated if the module is
+/// known, wrModeOn if the link is on.
 pub fn suffix_of(port: &WrPortDs) -> u16
     ensures { result ≡ suffix_flags port.now }
 {

@@ -7,7 +7,7 @@ use crate::Reason;
 use arrayvec::ArrayVec;
 use std::marker::Model;
 
-/// One counter for each of the 15 reasons. A counter that has come to the greatest u32 stays there.
+/// One counter for each of the 15 reasons. A counter that has reached the greatest u32 stays there.
 #[derive(Debug, Drop, PartialEq, Eq)]
 pub struct Counters {
     numbers: [u32; 15],

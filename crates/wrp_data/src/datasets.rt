@@ -28,7 +28,8 @@ pub struct PortDs {
     pub wr: bool,
 }
 
-/// What a port tells its peer of its side of White Rabbit (members of the White Rabbit data sets).
+/// What a port reports to its peer of its side of White Rabbit (members of the White Rabbit data
+/// sets).
 #[derive(Clone, Copy, Debug, Default, PartialEq, Eq)]
 pub struct WrPortDs {
     /// calibrated: whether the calibration database lists the port's module.

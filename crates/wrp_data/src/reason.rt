@@ -2,8 +2,8 @@
 ghost use Rattle.std.specs.Prelude.{◌≡◌, ◌≤◌, ◌↔◌, IsSome, IfSome};
 ghost use Rattle.wrp_data.specs.Reason.{number_of, name_of, reasons};
 
-/// Why a port drops what came to it (this project's profile). Where several reasons apply, the one
-/// with the lowest number is told.
+/// Why a port drops what came to it (this project's profile). If several reasons apply, the one with
+/// the lowest number is reported.
 #[derive(Clone, Copy, Debug, PartialEq, Eq)]
 pub enum Reason {
     /// 1: there are fewer octets than a header has.
@@ -68,7 +68,7 @@ impl Reason {
         self as u8
     }
 
-    /// The reason of this number; None exactly outside 1 to 15.
+    /// The reason of this number; None if and only if it is outside 1 to 15.
     pub fn from_number(number: u8) -> Option<Reason>
         ensures listed { IsSome result ↔ ((1 ≤ number) × (number ≤ 15)) }
         ensures value { IfSome result (λ reason. number_of reason ≡ number) }

@@ -72,7 +72,7 @@ own kinds.DelayResp = record { kind_is = refl; number = refl; control = refl; ti
 own kinds.Announce = record { kind_is = refl; number = refl; control = refl; time = λ tlvs octets fits stamped. fits.1 }
 own kinds.Signaling = record { kind_is = refl; number = refl; control = refl; time = λ tlvs octets fits stamped. cc }
 
--- the octets of a header and a body, with others behind them
+-- the octets of a header and a body, with others after them
 abbrev pub framed : ℕ → Head → Body → List ℕ → List ℕ
 framed size head body rest = head_octets (kind_of_body body) size head ++ body_octets body ++ rest
 

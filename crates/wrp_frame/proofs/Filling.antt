@@ -18,7 +18,7 @@ first_end octets = 4 + number_at 2 2 octets
 length_in_header : (octets : List ℕ) → number_at 2 2 (take 4 octets) ≡ number_at 2 2 octets
 length_in_header octets = ap (big_number 2) (drop-take 2 2 octets) ∙ big_from-take 0 2 2 (drop 2 octets) (omega arith)
 
--- where a whole TLV stands and a list fills the rest, that TLV and the list fill the octets
+-- if a whole TLV is there and a list fills the rest, that TLV and the list fill the octets
 pub fills_on : (octets : List ℕ) (tlvs : List TypedValue) → 4 ≤ length octets → first_end octets ≤ length octets
     → Fills tlvs (drop (first_end octets) octets) → Fills (first_tlv octets ∷ tlvs) octets
 fills_on octets tlvs whole within filled =

@@ -1,4 +1,4 @@
--- Which fault is the first: each comes where the octets pass the tests before it and fail its own.
+-- Which fault is the first: each comes if the octets pass the tests before it and fail its own.
 use Rattle.std.proofs.Common.{◌≡◌, ◌≢◌, ◌<◌, ◌≤◌, ℕ, suc, List, length, Some, None, inl, inr, ◌==◌, if◌then◌else◌, refl, sym, ap, ◌∙◌, subst, arith, Bool, true, false}
 use Rattle.std.proofs.Math.Nat.{eq-or-lt_of_le}
 use Rattle.std.specs.List.{list_any}
@@ -70,7 +70,7 @@ HasNoneBelow n octets = (other : FrameFault) → fault_number other < n → HasF
 none_below_first : (octets : List ℕ) → HasNoneBelow 1 octets
 none_below_first octets other low has = let least = positive other in omega arith
 
--- one more fault that the octets have not
+-- one more fault that the octets do not have
 one_more : (octets : List ℕ) (fault : FrameFault) (n : ℕ) → fault_number fault ≡ n → HasNoneBelow n octets → (HasFault fault octets → ⊥) → HasNoneBelow (suc n) octets
 one_more octets fault n is below not other low has =
     let at_most : fault_number other ≤ n = omega arith in
@@ -94,7 +94,7 @@ not_kind octets kind header =
     one_more octets Kind 3 refl (not_version octets header.whole header.version)
     (λ (none : kind_of octets ≡ None). let own = header.kind_is in cc)
 
--- a fault of the kind's own, where the kind is known
+-- a fault of the kind's own, if the kind is known
 own_fault : (octets : List ℕ) (kind : MessageType) (fault : FrameFault) → HasHeader kind octets
     → ((kind : MessageType) × (kind_of octets ≡ Some kind) × HasFaultOf fault kind octets) → HasFaultOf fault kind octets
 own_fault octets kind fault header (other, is, has) =

@@ -1,5 +1,4 @@
--- What a number, a timestamp, an identity, a header and a body are read as, of the octets that they
--- are sent as.
+-- What a number, a timestamp, an identity, a header and a body are read as, from the octets as which they are sent.
 use Rattle.std.proofs.Common.{◌≡◌, ◌<◌, ◌^◌, ◌%◌, ℕ, ℤ, [], Option, sym, ap, ◌∙◌}
 use Rattle.std.proofs.lemmas.List.{append-nil}
 use Rattle.std.proofs.Math.Nat.{mod-eq_of_lt}
@@ -12,7 +11,7 @@ use Rattle.wrp_base.specs.declared.message.Head.{Head}
 use Rattle.wrp_base.specs.declared.message.Body.TheVariants.{Announce}
 use Rattle.wrp_frame.specs.Fitting.{FitsTime, FitsIdentity, FitsHead, FitsAnnounce}
 
--- a number as it is read of the n octets that it is sent in
+-- a number as it is read from the n octets in which it is sent
 abbrev pub again : ℕ → ℕ → ℕ
 again n x = big_number n (big_bytes n x)
 

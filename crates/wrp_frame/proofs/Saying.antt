@@ -30,7 +30,7 @@ unfilled : (octets : List ℕ) → (octets ≡ [] → ⊥) → ((tlv : TypedValu
 unfilled octets some never [] fills = some fills
 unfilled octets some never (tlv ∷ tlvs) fills = never tlv tlvs (fills_begin octets tlv tlvs fills)
 
--- behind a whole TLV
+-- after a whole TLV
 filled_on : (octets : List ℕ) → (octets ≡ [] → ⊥) → 4 ≤ length octets → first_end octets ≤ length octets → Filled (drop (first_end octets) octets) → Filled octets
 filled_on octets some whole within (inl rest) = inl (first_tlv octets ∷ rest.0, fills_on octets rest.0 whole within rest.1)
 filled_on octets some whole within (inr none) = inr (unfilled octets some (λ tlv tlvs begins. none tlvs begins.rest))
@@ -63,7 +63,7 @@ spelled : (octets : List ℕ) (kind : MessageType) (tlvs : List TypedValue) → 
 spelled octets kind tlvs header sized time listed two_step =
     (Ok (message_at kind tlvs octets), record { kind = kind; header = header; sized = sized; time = time; tlvs = tlvs; listed = listed; two_step = two_step; is = refl })
 
--- of a Sync twoStepFlag is tried
+-- for a Sync twoStepFlag is tested
 of_kind : (octets : List ℕ) (kind : MessageType) (tlvs : List TypedValue) → HasHeader kind octets → HasLength kind octets → HasTime kind octets → HasTlvs kind tlvs octets → Said octets
 of_kind octets Sync tlvs header sized time listed =
     elim (cases_Bool (bit_and (number_at 6 2 octets) 0x0200 == 0)) [

@@ -1,4 +1,4 @@
--- The walk over the TLVs of a part: what is known at a place that it has come to.
+-- The walk over the TLVs of a part: what is known at a place that it has reached.
 use Rattle.std.proofs.Common.{◌≡◌, ◌<◌, ◌≤◌, ◌+◌, ◌-◌, ◌||◌, ℕ, List, [], ◌∷◌, length, take, drop, slice_range, false, Option, Some, None, refl, sym, ap, ◌∙◌, subst, arith, length-drop}
 use Rattle.std.specs.Option.{option_or}
 use Rattle.std.proofs.lemmas.List.{drop-drop, drop_all}
@@ -13,8 +13,8 @@ use Rattle.wrp_tlv.specs.WhiteRabbitList.{read_of}
 use Rattle.wrp_frame.specs.Found.{found_in, joined, with_first, IsFoundAmong}
 use Rattle.wrp_frame.proofs.Filling.{first_tlv, first_end, fills_on, fills_begin}
 
--- The walk has come to this place and has found this: each list that fills the rest belongs to one
--- that fills the part and says both, and each list that fills the part leaves one for the rest.
+-- The walk has reached this place and has found this: each list that fills the rest belongs to one that fills the part
+-- and says both, and each list that fills the part leaves one for the rest.
 pub record Walked (part : List ℕ) (at : ℕ) (found : Found) : Type 0 where
   pub within : at ≤ length part
   pub whole : (rest : List TypedValue) → Fills rest (drop at part)
@@ -31,7 +31,7 @@ walk_starts part = record {
   only = λ tlvs filled. (tlvs, filled);
 }
 
--- the TLV that stands at a place, with its value
+-- the TLV at a place, with its value
 abbrev pub typed : List ℕ → Tlv → TypedValue
 typed part tlv = record { kind = tlv.kind; value = slice_range part tlv.from tlv.to }
 
@@ -55,7 +55,7 @@ typed_is_first part at tlv stands =
     ap (λ n. take n (drop tlv.from part)) long ∙ ap (take (number_at 2 2 (drop at part))) behind in
     ap (λ n. record { kind = n; value = slice_range part tlv.from tlv.to }) stands.kind ∙ ap (λ v. record { kind = number_at at 2 part; value = v }) value
 
--- a list that fills what is left at a place goes on behind the TLV that stands there
+-- a list that fills what is left at a place goes on after the TLV that is there
 walk_only : (part : List ℕ) (at : ℕ) (tlv : Tlv) → StandsAt part at tlv → at < length part
     → (rest : List TypedValue) → Fills rest (drop at part) → (rest : List TypedValue) × Fills rest (drop tlv.to part)
 walk_only part at tlv stands left [] filled = absurd (omega (arith, length-drop at part, ap length filled))
@@ -116,7 +116,7 @@ walk_ends part at found walked done =
     let (tlvs, all, says) = walked.whole [] nothing_left in
     record { tlvs = tlvs; filled = all; is = sym (says ∙ joined_nothing found) }
 
--- where no whole TLV stands at a place before the end, no list fills the part
+-- if no whole TLV is at a place before the end, no list fills the part
 pub walk_fails : (part : List ℕ) (at : ℕ) (found : Found) → Walked part at found → at < length part
     → ((tlv : Tlv) → StandsAt part at tlv → ⊥) → IsFilledByNone part
 walk_fails part at found walked left none tlvs filled =

@@ -1,5 +1,5 @@
--- The body of each kind at its fixed places (IEEE 1588-2019), with the White Rabbit message or
--- suffix of the list of TLVs behind it. Reserved octets are free.
+-- The body of each kind at its fixed places (IEEE 1588-2019), with the White Rabbit message or suffix of the list of
+-- TLVs after it. Reserved octets are free.
 use Rattle.std.specs.Prelude.{ℕ, List, Option, slice_index}
 use Rattle.wrp_base.specs.declared.message.Body.{Body}
 use Rattle.wrp_base.specs.declared.message.Body.TheVariants as bodies

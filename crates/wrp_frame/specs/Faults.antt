@@ -36,7 +36,7 @@ HasFault Kind octets = kind_of octets ≡ None
 HasFault fault octets =
     (kind : MessageType) × (kind_of octets ≡ Some kind) × HasFaultOf fault kind octets
 
--- the number of a fault: of several the least is told
+-- the number of a fault: of several the least is reported
 abbrev pub fault_number : FrameFault → ℕ
 fault_number Short = 1
 fault_number Version = 2

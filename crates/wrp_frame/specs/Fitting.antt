@@ -54,12 +54,12 @@ FitsBody (Announce origin utc p1 quality p2 gm steps source suffix) =
     FitsAnnounce origin utc p1 quality p2 gm steps source
 FitsBody (Signal target wr) = FitsIdentity target
 
--- the value that a suffix is sent as is read as that suffix
+-- the value as which a suffix is sent is read as that suffix
 abbrev pub IsSuffixReadBack : Option ℕ → Type 0
 IsSuffixReadBack None = Unit {0}
 IsSuffixReadBack (Some flags) = wr_read (suffix_value flags) ≡ Suffix flags
 
--- the value that a White Rabbit message is sent as is read as that message
+-- the value as which a White Rabbit message is sent is read as that message
 abbrev pub IsMessageReadBack : Option WrMsg → Type 0
 IsMessageReadBack None = Unit {0}
 IsMessageReadBack (Some message) = wr_read (wr_value message) ≡ Wr message

@@ -34,13 +34,13 @@ joined earlier later = record {
   bad = earlier.bad || later.bad;
 }
 
--- what is said by the whole TLVs that fill the octets
+-- what the whole TLVs that fill the octets say
 pub record IsFoundAmong (octets : List ℕ) (found : Found) : Type 0 where
   pub tlvs : List TypedValue
   pub filled : Fills tlvs octets
   pub is : found ≡ found_in tlvs
 
--- what is said by the TLVs behind the body, of which none is a bad one that the kind reads
+-- what the TLVs after the body say, of which none is a bad one that the kind reads
 pub record HasFound (kind : MessageType) (octets : List ℕ) (found : Found) : Type 0 where
   pub tlvs : List TypedValue
   pub listed : HasTlvs kind tlvs octets

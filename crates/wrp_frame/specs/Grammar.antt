@@ -26,8 +26,7 @@ HasTime kind octets = has_timestamp kind ≡ true → (timestamp_at 34 octets).n
 abbrev pub tlv_part : MessageType → List ℕ → List ℕ
 tlv_part kind octets = slice_range octets (least_length kind) (message_length octets)
 
--- the list fills the part behind the body, and where the kind reads White Rabbit TLVs, none of them
--- is a bad one
+-- the list fills the part after the body, and if the kind reads White Rabbit TLVs, none of them is a bad one
 pub record HasTlvs (kind : MessageType) (tlvs : List TypedValue) (octets : List ℕ) : Type 0 where
   pub filled : Fills tlvs (tlv_part kind octets)
   pub sound : reads_white_rabbit kind ≡ true → list_any (λ tlv. is_bad (read_of tlv)) tlvs ≡ false

@@ -11,7 +11,7 @@ use Rattle.wrp_frame.specs.Fields.{identity_at}
 abbrev pub version_of : List ℕ → ℕ
 version_of octets = slice_index octets 1 % 16
 
--- the kind that messageType, the low nibble of octet 0, stands for
+-- the kind that messageType, the low nibble of octet 0, means
 abbrev pub kind_of : List ℕ → Option MessageType
 kind_of octets = kind_numbered (slice_index octets 0 % 16)
 

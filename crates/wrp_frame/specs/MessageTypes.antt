@@ -16,7 +16,7 @@ number_of DelayResp = 0x9
 number_of Announce = 0xB
 number_of Signaling = 0xC
 
--- the kind that a messageType stands for, of the six that are read
+-- the kind that a messageType means, of the six that are read
 abbrev pub kind_numbered : ℕ → Option MessageType
 kind_numbered n =
     if n == 0x0 then Some Sync

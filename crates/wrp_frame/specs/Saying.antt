@@ -1,4 +1,4 @@
--- What octets say: a message, or the first fault of IEEE 1588-2019's frames and of White Rabbit's TLVs that they have.
+-- What octets say: a message, or the first fault of IEEE 1588-2019's frames and of White Rabbit's TLVs that they have
 use Rattle.std.specs.Prelude.{ℕ, List, Result, Ok, Err}
 use Rattle.wrp_base.specs.declared.message.PtpMsg.{PtpMsg}
 use Rattle.wrp_frame.specs.declared.fault.FrameFault.{FrameFault}

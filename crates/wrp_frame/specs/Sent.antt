@@ -1,5 +1,5 @@
--- What a frame that is sent has in the places that a reader leaves free (this project's profile),
--- and that nothing stands in it beside its message.
+-- What a frame that is sent has in the places that a reader leaves free (this project's profile), and that it contains
+-- nothing but its message.
 use Rattle.std.specs.Prelude.{◌≡◌, ℕ, List, length, slice_index}
 use Rattle.wrp_base.specs.declared.message.PtpMsg.{PtpMsg}
 use Rattle.wrp_tlv.specs.Octets.{number_at}

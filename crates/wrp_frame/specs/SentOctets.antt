@@ -1,5 +1,5 @@
--- The octets of a message, one field after another (IEEE 1588-2019; what reserved places and
--- controlField are sent with is this project's profile).
+-- The octets of a message, one field after another (IEEE 1588-2019; the values with which reserved places and
+-- controlField are sent are this project's profile).
 use Rattle.std.specs.Prelude.{ℕ, ◌+◌, List, [], ◌∷◌, ◌++◌, length, Option, Some, None}
 use Rattle.std.specs.Int.{w16, w64, cast_unsigned}
 use Rattle.byteorder.specs.Endian.{big_bytes}
@@ -41,9 +41,8 @@ head_octets kind size head =
     ++ big_bytes 1 (control_of kind)
     ++ big_bytes 1 head.interval
 
--- the body; that of an Announce is originTimestamp, currentUtcOffset, a reserved octet,
--- grandmasterPriority1, grandmasterClockQuality, grandmasterPriority2, grandmasterIdentity,
--- stepsRemoved and timeSource
+-- the body; the body of an Announce is originTimestamp, currentUtcOffset, a reserved octet, grandmasterPriority1,
+-- grandmasterClockQuality, grandmasterPriority2, grandmasterIdentity, stepsRemoved and timeSource
 abbrev pub body_octets : Body → List ℕ
 body_octets (Sync origin) = timestamp_octets origin
 body_octets (DelayReq origin) = timestamp_octets origin
@@ -71,7 +70,7 @@ abbrev pub message_tlvs : Option WrMsg → List TypedValue
 message_tlvs None = []
 message_tlvs (Some message) = extension (wr_value message) ∷ []
 
--- the TLVs of a body: that of its White Rabbit message or suffix
+-- the TLVs of a body: the TLV of its White Rabbit message or suffix
 abbrev pub tlvs_of : Body → List TypedValue
 tlvs_of (Sync origin) = []
 tlvs_of (DelayReq origin) = []

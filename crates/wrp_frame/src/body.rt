@@ -1,4 +1,4 @@
-//! Reads the body of each kind, and tests what stands in it and behind it.
+//! Reads the body of each kind, and tests what is in it and after it.
 ghost use Rattle.std.specs.Prelude.{◌≡◌, ◌≤◌, false, true, length, List, IfOk, IfErr, OnOk};
 ghost use Rattle.wrp_frame.specs.Body.{body_at, announce_at};
 ghost use Rattle.wrp_frame.specs.Faults.{IsFirstFault};
@@ -21,7 +21,7 @@ use crate::places::{
 use wrp_base::Body;
 use wrp_tlv::numbers::{i16_at, u16_at, u32_at, u64_at};
 
-/// Tests that the nanosecondsField of a kind that has one is below a second. `Time` where it is not.
+/// Tests that the nanosecondsField of a kind that has one is below a second. `Time` if it is not.
 #[tactic(auto, using(crate::proofs::FirstFaults::first_time))]
 pub fn check_time(octets: &[u8], kind: MessageType) -> Result<(), FrameFault>
     requires header { HasHeader kind octets.now }
@@ -35,8 +35,8 @@ pub fn check_time(octets: &[u8], kind: MessageType) -> Result<(), FrameFault>
     Ok(())
 }
 
-/// What the TLVs behind the body say of White Rabbit: `end` is messageLength. `Tlv` where no list of
-/// whole TLVs fills the octets up to there. `BadWr` where the kind is Announce or Signaling, and a
+/// What the TLVs after the body say of White Rabbit: `end` is messageLength. `Tlv` if no list of
+/// whole TLVs fills the octets up to there. `BadWr` if the kind is Announce or Signaling, and a
 /// White Rabbit TLV has no id or not the length of its id.
 #[tactic(auto, using(crate::proofs::FirstFaults::tlv_faults))]
 pub fn check_tlvs(octets: &[u8], kind: MessageType, end: usize) -> Result<Found, FrameFault>
@@ -54,7 +54,7 @@ pub fn check_tlvs(octets: &[u8], kind: MessageType, end: usize) -> Result<Found,
     Ok(found)
 }
 
-/// Tests that a Sync has twoStepFlag. `OneStep` where it has not; any other kind passes.
+/// Tests that a Sync has twoStepFlag. `OneStep` if it does not; any other kind passes.
 #[tactic(auto, using(crate::proofs::FirstFaults::first_one_step))]
 pub fn check_two_step(octets: &[u8], kind: MessageType, found: &Found) -> Result<(), FrameFault>
     requires header { HasHeader kind octets.now }

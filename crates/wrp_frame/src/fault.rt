@@ -1,4 +1,4 @@
-//! Why octets are no message, in the order in which the causes are told.
+//! Why octets are no message, in the order in which the causes are reported.
 ghost use Rattle.std.specs.Prelude.{◌≡◌, ◌≤◌};
 ghost use Rattle.wrp_frame.specs.Faults.{fault_number};
 

@@ -1,4 +1,4 @@
-//! Reads the Timestamp and the PortIdentity that stand at a place of the octets.
+//! Reads the Timestamp and the PortIdentity at a place of the octets.
 ghost use Rattle.std.specs.Prelude.{◌≡◌, ◌+◌, ◌≤◌, length};
 ghost use Rattle.wrp_frame.specs.Fields.{timestamp_at, identity_at};
 

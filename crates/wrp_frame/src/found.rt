@@ -1,4 +1,4 @@
-//! Walks the TLVs behind a body, and keeps what they say of White Rabbit.
+//! Walks the TLVs after a body, and keeps what they say of White Rabbit.
 ghost use Rattle.std.specs.Prelude.{◌≡◌, ◌<◌, length, IfOk, IfErr};
 ghost use Rattle.wrp_frame.specs.Found.{IsFoundAmong};
 ghost use Rattle.wrp_tlv.specs.TlvAt.{HasNoTlvAt, StandsAt};
@@ -24,7 +24,7 @@ impl Found {
     ghost use Rattle.wrp_frame.specs.declared.found.Found.{Found};
     ghost use Rattle.wrp_frame.specs.Found.{joined, with_first};
 
-    /// What stands after one more TLV: what came first counts.
+    /// What is found after one more TLV: what came first counts.
     pub fn add(self, read: WrRead) -> Found
         ensures { (later : Found) → joined result later ≡ joined self (with_first read later) }
     {
@@ -54,7 +54,7 @@ fn read_value(kind: u16, value: &[u8]) -> WrRead
     }
 }
 
-// The whole TLV that stands at a place of the part.
+// The whole TLV at a place of the part.
 fn whole_tlv_at(part: &[u8], at: usize) -> Result<Tlv, FrameFault>
     requires { at < length part.now }
     ensures ok { IfOk result (StandsAt part.now at) }
@@ -66,8 +66,7 @@ fn whole_tlv_at(part: &[u8], at: usize) -> Result<Tlv, FrameFault>
     }
 }
 
-/// What the TLVs that fill the part say of White Rabbit. `Tlv` where no list of whole TLVs fills
-/// it.
+/// What the TLVs that fill the part say of White Rabbit. `Tlv` if no list of whole TLVs fills it.
 #[tactic(auto, using(crate::proofs::Walk::walks))]
 pub fn read_tlvs(part: &[u8]) -> Result<Found, FrameFault>
     ensures ok { IfOk result (IsFoundAmong part.now) }

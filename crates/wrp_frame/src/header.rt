@@ -14,8 +14,8 @@ use crate::places::{
 use wrp_base::Head;
 use wrp_tlv::numbers::{i64_at, u16_at};
 
-/// The kind of the message whose header the octets begin with. `Short` where they are fewer than
-/// 34, else `Version` where versionPTP is not 2, else `Kind` where messageType is none that is read.
+/// The kind of the message whose header the octets begin with. `Short` if they are fewer than 34,
+/// else `Version` if versionPTP is not 2, else `Kind` if messageType is none that is read.
 #[tactic(auto, using(crate::proofs::FirstFaults::header_faults))]
 pub fn message_type_of(octets: &[u8]) -> Result<MessageType, FrameFault>
     ensures ok { IfOk result (λ kind. HasHeader kind octets.now) }
@@ -33,8 +33,8 @@ pub fn message_type_of(octets: &[u8]) -> Result<MessageType, FrameFault>
     }
 }
 
-/// messageLength, the end of the message among the octets: at most their number. `Length` where it
-/// is below the least of its kind, or above the number of octets.
+/// messageLength, the end of the message among the octets: at most their number. `Length` if it is
+/// below the least of its kind, or above the number of octets.
 #[tactic(auto, using(crate::proofs::FirstFaults::header_faults))]
 pub fn message_end(octets: &[u8], kind: MessageType) -> Result<usize, FrameFault>
     requires { HasHeader kind octets.now }

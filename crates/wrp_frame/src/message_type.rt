@@ -64,7 +64,7 @@ impl MessageType {
         }
     }
 
-    /// The kind that a messageType stands for; None for one that is not read.
+    /// The kind that a messageType means; None for one that is not read.
     pub fn of_number(number: u8) -> Option<MessageType>
         ensures { result ≡ kind_numbered number }
     {

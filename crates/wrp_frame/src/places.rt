@@ -1,4 +1,4 @@
-//! Where each field that is read stands, in octets from the frame's first, and the numbers that
+//! The place of each field that is read, in octets from the frame's first, and the numbers that
 //! have a meaning there (IEEE 1588-2019). Octets 5, 16 to 19, 32, and 46 of an Announce are free.
 
 /// versionPTP, the low nibble of octet 1.

@@ -13,7 +13,7 @@ use wrp_base::PtpMsg;
 /// of unknown types are passed over, and reserved places are free.
 ///
 /// Refused with the first fault, in the order of [`FrameFault`], that the octets have, and accepted
-/// where they have none.
+/// if they have none.
 pub fn decode(bytes: &[u8]) -> Result<PtpMsg, FrameFault>
     ensures spelled { (message : PtpMsg) → (result ≡ Ok message) ↔ Spells bytes.now message }
     ensures refused { (fault : FrameFault) → (result ≡ Err fault) ↔ IsFirstFault fault bytes.now }

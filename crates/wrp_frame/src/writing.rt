@@ -20,9 +20,9 @@ use wrp_tlv::appending::{put_i16, put_i64, put_u8, put_u16, put_u32, put_u48, pu
 use wrp_tlv::{SUFFIX_TLV_LENGTH, put_suffix, put_wr, wr_length};
 
 /// The frame of a sound message, 44 to 78 octets: as many as messageLength says, 0 in each reserved
-/// place, the kind's own controlField, and no TLV but that of the White Rabbit message or suffix. A
-/// message is sound where each timestamp has seconds below `2^48` and nanoseconds below `10^9`, and
-/// a Sync has twoStepFlag.
+/// place, the kind's own controlField, and no TLV except the TLV of the White Rabbit message or
+/// suffix. A message is sound if each timestamp has seconds below `2^48` and nanoseconds below
+/// `10^9`, and a Sync has twoStepFlag.
 pub fn encode(m: &PtpMsg) -> Frame
     requires { IsSound m.now }
     ensures spelled { Spells result.items m.now }

@@ -1,5 +1,5 @@
--- The deltas of a slave are those of the module at its peer: both carriers came together, and what is
--- still in force was sent since then.
+-- The deltas of a slave are the delays of the module at its peer: both carriers came together, and what is still in
+-- force was sent since then.
 use Rattle.std.proofs.Common.{◌≡◌, ◌≢◌, ◌⊎◌, inl, inr, refl, ap, sym, ◌∙◌, subst, ℕ, ℤ, Bool, true, false, cond, eqb, ltb, is_some, List, [], ◌∷◌, Option, None, Some}
 use Rattle.std.specs.List.{AllByRecursion}
 use Rattle.wrp_base.specs.declared.link.LinkState.{LinkState}

@@ -1,4 +1,4 @@
--- A port in WR_LINK_ON fails by SLAVE_PRESENT alone, and only once its quiet time was ticked in that state.
+-- Only SLAVE_PRESENT makes a port in WR_LINK_ON fail, and only after its quiet time was ticked in that state.
 use Rattle.std.proofs.Common.{◌≡◌, ◌≢◌, refl, ℕ, ◌≤◌, Bool, true, false, cond, eqb, ltb, leb, [], ◌∷◌, Option, None, Some}
 use Rattle.std.proofs.lemmas.Bool.{leb-true}
 use Rattle.wrp_base.specs.declared.link.LinkState.{LinkState}

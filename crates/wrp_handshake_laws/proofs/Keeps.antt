@@ -38,7 +38,7 @@ view_of p =
       sent = p.sent;
     }
 
--- what is remembered of a port beside its state
+-- what is remembered of a port in addition to its state
 pub record Ghost : Type 0 where
   -- when its quiet time last began
   pub rest : ℤ
@@ -91,7 +91,7 @@ pub record IsEngaged (time : ℤ) (role : Role) (state : LinkState) (marks : Lis
   pub first : role ≡ Master → (t : ℤ) → BeganBy t g.latest → g.turn ≤ℤ t
   pub lasts : (t : ℤ) → LastsTo t g.latest
 
--- a mark by which a port came past PRESENT is not after a time
+-- a mark with which a port came past PRESENT is not after a time
 abbrev pub TurnedBy : Role → ℤ → Mark → Type 0
 TurnedBy role time mark = engaged role mark.from ≡ false → engaged role mark.to ≡ true → mark.at ≤ℤ time
 
@@ -119,13 +119,13 @@ pub record PortKeeps (life dmin : ℕ) (time : ℤ) (v : View) (g : Ghost) : Typ
   pub left : AllByRecursion (λ m. LeftBy g.rest m) v.marks
   pub awake : v.state ≢ Idle → (g.rest +ℤ pos (2 * life)) <ℤ time
 
--- a message that moved a port is of the peer's last stretch in which that was engaged
+-- a message that moved a port is of the peer's last stretch in which the peer was engaged
 pub record FromLatest (sent : List Sending) (turn : ℤ) (m : Sending) : Type 0 where
   pub there : IsAmong m sent
   pub counted : numbered m.0 ≡ true
   pub since : turn ≤ℤ m.1
 
--- a bound port, with what its peer sent and when that was engaged last
+-- a bound port, with what its peer sent and when the peer was engaged last
 pub record Bond (role : Role) (life : ℕ) (bind : ℤ) (latest : List Mark) (sent : List Sending) (turn : ℤ) : Type 0 where
   pub source : Sending
   pub there : IsAmong source sent

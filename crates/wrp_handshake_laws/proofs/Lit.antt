@@ -1,4 +1,4 @@
--- What is kept of a link since its carrier came: its modules, and who was told of them.
+-- What is kept of a link since its carrier came: its modules, and who was given their delays.
 use Rattle.std.proofs.Common.{◌≡◌, ◌≢◌, ◌⊎◌, inl, inr, refl, ap, sym, ◌∙◌, subst, ℕ, ◌-◌, ◌*◌, ◌<◌, ℤ, pos, ◌+ℤ◌, ◌≤ℤ◌, ◌<ℤ◌, Bool, true, false, is_some, List, [], ◌∷◌, Option, None, Some, arith}
 use Rattle.std.proofs.lemmas.Int.{ints}
 use Rattle.std.proofs.lemmas.Option.{same_Some}
@@ -35,7 +35,7 @@ use Rattle.wrp_handshake_laws.proofs.Parts.{mark_at, not_idle, not_same_idle}
 use Rattle.wrp_handshake_laws.proofs.Inputs.{engaged_awake, idle_or_not, marked_new, marked_same, tick_past, tick_grows}
 use Rattle.wrp_handshake_laws.proofs.Deltas.{IsOwn, OwnAll, row_owns, now_moved, moved_more, moved_first, in_with, of_with, stamped_own}
 
--- the peer told these delays in this stretch
+-- the peer gave these delays in this stretch
 abbrev Among : List Mark → ℕ → ℕ → Type 0
 Among marks tx rx = (at : ℤ) × IsAmong (CALIBRATED tx rx, at) (now_moved marks)
 
@@ -75,7 +75,7 @@ pub record LitPort (life dmin : ℕ) (time lit : ℤ) (placed : Option Module) (
 abbrev pub LitAt : (life dmin : ℕ) → (time lit : ℤ) → Option Module → Port → Type 0
 LitAt life dmin time lit placed p = LitPort life dmin time lit placed p.link p.ticked p.marks p.sent
 
--- what moved a port, the module at the peer told
+-- what moved a port carries the delays of the module at the peer
 abbrev pub LitPair : Port → Option Module → Type 0
 LitPair p peers = p.link.state ≢ Idle → (m : Sending) → IsAmong m (now_moved p.marks) → IsOwn peers m.0
 
@@ -244,7 +244,7 @@ lit_moves life dmin time lit placed p input at next deltas ms k f o own kn since
           );
     })
 
--- delays that stood before a move stand among what moved
+-- delays that were kept before a move are among what moved
 still_among :
     (time : ℤ) (old next : LinkState) (by : Option Sending) (marks : List Mark) (tx rx : ℕ) →
     old ≢ Idle → Among marks tx rx → Among (mark_at time old next by ∷ marks) tx rx

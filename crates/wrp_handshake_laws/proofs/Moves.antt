@@ -49,7 +49,7 @@ taken_more time ms sent turn (x ∷ xs) h = (
   taken_more time ms sent turn xs h.1,
 )
 
--- a bond stays where the peer sends more
+-- a bond stays if the peer sends more
 pub bond_more :
     (role : Role) (life : ℕ) (bind : ℤ) (latest : List Mark) (sent : List Sending) (turn time : ℤ) (ms : List WrMsg) →
     Bond role life bind latest sent turn → Bond role life bind latest (stamped time ms sent) turn
@@ -81,7 +81,7 @@ from_latest life dmin time q gq m at k h n =
           ];
     }
 
--- while its peer is bound a port is not engaged anew
+-- while its peer is bound a port is not engaged again
 pub not_engaged_anew :
     (life dmin : ℕ) (time : ℤ) (v : View) (g : Ghost) (q : View) (gq : Ghost) (m : WrMsg) (at : ℤ) →
     Peers life dmin time v g q gq → Told life time q m at → opens q.role m ≡ true →

@@ -1,4 +1,4 @@
--- A port by itself: while time passes, in a state that stays, and where it returns to IDLE.
+-- A port by itself: while time passes, in a state that stays, and when it returns to IDLE.
 use Rattle.std.proofs.Common.{◌≡◌, ◌≢◌, inl, inr, refl, ap, sym, ◌∙◌, subst, ℕ, ℤ, pos, ◌*◌, ◌+ℤ◌, ◌≤ℤ◌, Bool, true, false, List, [], ◌∷◌, ◌++◌, Option}
 use Rattle.std.specs.List.{AllByRecursion}
 use Rattle.wrp_base.specs.declared.link.LinkState.{LinkState}
@@ -98,7 +98,7 @@ stays life dmin time v g ticked quiet ms k t c s =
       awake = k.awake;
     }
 
--- a message of the last turn, where that stretch has one mark more
+-- a message of the last turn, if that stretch has one mark more
 pub longer :
     (role : Role) (marks : List Mark) (g : Ghost) (rest bind : ℤ) (mark : Mark) (f : Sending) →
     stretches_of (mark ∷ marks) ≡ (mark ∷ g.latest) ∷ g.older →
@@ -169,7 +169,7 @@ falls_engaged life dmin time v g carrier quiet ticked by k out en b t c =
 tail_is : (x y : List Mark) (xs ys : List (List Mark)) → x ∷ xs ≡ y ∷ ys → xs ≡ ys
 tail_is x y xs ys e = cc
 
--- a message of the last turn, where the sender's PRESENT has ended
+-- a message of the last turn, if the sender's PRESENT has ended
 still_current :
     (life : ℕ) (time : ℤ) (role : Role) (state : LinkState) (marks : List Mark) (g : Ghost) (rest : ℤ) (mark : Mark) (f : Sending)
     (o : IsOpen life time role state marks g) →
@@ -233,7 +233,7 @@ falls_open life dmin time v g carrier quiet ticked by k out was o b t c =
       awake = λ o. absurd (o refl);
     }
 
--- a port in IDLE begins its quiet time anew
+-- a port in IDLE begins its quiet time again
 pub rests :
     (life dmin : ℕ) (time : ℤ) (v : View) (g : Ghost) (carrier : Bool) (quiet : ℕ) (ticked : ℤ) →
     PortKeeps life dmin time v g →

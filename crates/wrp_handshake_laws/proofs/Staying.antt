@@ -66,7 +66,7 @@ next_tick : (n m dmin : ℕ) (f tick time : ℤ) → m * dmin ≤ n * dmin + dmi
     (f +ℤ pos (n * dmin)) ≤ℤ (tick +ℤ pos dmin) → (tick +ℤ pos dmin) ≤ℤ time → (f +ℤ pos (m * dmin)) ≤ℤ (time +ℤ pos dmin)
 next_tick n m dmin f tick time h k t = omega (arith, ints)
 
--- each LOCK was sent so long before
+-- each LOCK was sent this long before
 abbrev Locks : List Sending → (ℤ → Type 0) → Type 0
 Locks sent P = (f : Sending) → IsAmong f sent → opens Master f.0 ≡ true → P f.1
 
@@ -205,7 +205,7 @@ unfolding OnPath
 entered_on t s ss [] h = absurd h
 entered_on t s ss (mark ∷ marks) h = elim h [ inl x ↦ inl x.is | inr x ↦ inr (entered_on t s ss marks x) ]
 
--- a master on whose path WR_LINK_ON stands is in it
+-- a master whose path contains WR_LINK_ON is in it
 on_way : (role : Role) (s : LinkState) → role ≡ Master → OnPath LinkOn (way_of role s) → s ≡ LinkOn
 unfolding OnPath
 on_way Slave s r h = cc

@@ -29,7 +29,8 @@ slave_on role s r on = ap (λ (x : Role). bound x s) r ∙ ap (λ (x : LinkState
 slave_opens : (role : Role) → role ≡ Slave → opens role SLAVE_PRESENT ≡ true
 slave_opens role r = ap (λ (x : Role). opens x SLAVE_PRESENT) r
 
--- the newest stretch of a master in IDLE that no message of its last turn left behind
+-- the newest stretch of a master in IDLE began no later than a message of its last turn, if no stretch came after that
+-- turn
 last_began :
     (role : Role) (marks : List Mark) (g : Ghost) (w : ℤ) → g.newer ≡ [] → Current role marks g (WR_MODE_ON, w) → BeganBy w (newest_of (stretches_of marks))
 last_began role marks g w none c =

@@ -5,8 +5,8 @@ use Rattle.wrp_base.specs.declared.message.WrMsg.TheVariants.{Calibrated as CALI
 use Rattle.wrp_check.specs.Stretches.{stretches_of, newest_of, movers_of}
 use Rattle.wrp_handshake_laws.specs.Ends.{Port, IsAmong}
 
--- they are the entries of the modules in place at the master and at the slave, and the master's two are
--- those of a CALIBRATED that moved the slave in its last stretch
+-- they are the entries of the modules in place at the master and at the slave, and the master's two come from a
+-- CALIBRATED that moved the slave in its last stretch
 pub record KnowsDeltas (slave : Port) (at_master at_slave : Option Module) : Type 0 where
   pub own : Module
   pub peers : Module

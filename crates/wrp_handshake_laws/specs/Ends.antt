@@ -1,6 +1,5 @@
--- One link by itself: its two ports with all that they ever sent, and the ways in which it changes. What
--- is lost, late, repeated or out of order is a choice of changes; the physics behind it is this project's
--- profile.
+-- One link by itself: its two ports with all that they ever sent, and the ways in which it changes. What is lost, late,
+-- repeated or out of order is a choice of changes; the physics on which this rests is this project's profile.
 use Rattle.std.specs.Prelude.{◌≡◌, ◌⊎◌, ℕ, ◌-◌, ◌*◌, ◌<◌, ℤ, pos, ◌+ℤ◌, ◌≤ℤ◌, if◌then◌else◌, List, [], ◌∷◌, Option, None, Some}
 use Rattle.wrp_base.specs.declared.link.LinkState.{LinkState}
 use Rattle.wrp_base.specs.declared.link.Mark.{Mark}
@@ -61,12 +60,12 @@ abbrev pub mover_of : LinkIn → ℤ → Option Sending
 mover_of (Msg m) at = Some (m, at)
 mover_of _ at = None
 
--- the last tick once an input was given
+-- the last tick after an input was given
 abbrev pub ticked_by : LinkIn → ℤ → ℤ → ℤ
 ticked_by (Tick locked) time before = time
 ticked_by _ time before = before
 
--- the history once the state became another, or stayed
+-- the history after the state changed, or stayed
 abbrev pub marked : ℤ → LinkState → LinkState → Option Sending → List Mark → List Mark
 marked time old new mover marks =
     if is_same old new then marks else record { at = time; from = old; to = new; by = mover } ∷ marks
@@ -92,7 +91,7 @@ MayHear life dmin time port peer (Msg m) at = IsAmong (m, at) peer.sent × (time
 MayHear life dmin time port peer (Tick locked) at = (port.ticked +ℤ pos dmin) ≤ℤ time
 MayHear life dmin time port peer _ at = Unit {0}
 
--- an input by which no carrier comes
+-- an input with which no carrier comes
 abbrev pub IsNoCarrier : LinkIn → Type 0
 IsNoCarrier (CarrierUp fitted) = ⊥
 IsNoCarrier _ = Unit {0}
@@ -101,7 +100,7 @@ IsNoCarrier _ = Unit {0}
 pub data Change : Type 0 where
   -- time passes
   Passes : ℕ → Change
-  -- the port of a role is given an input; where that is a message, the time is that of its sending
+  -- the port of a role is given an input; if that is a message, the time is the time of its sending
   Hears : Role → LinkIn → ℤ → Change
   -- the node of the port of a role starts: its ticks count from now on
   Starts : Role → Change
@@ -119,7 +118,7 @@ changed ends (Lights of_master of_slave) =
       slave = after_input ends.time ends.slave (CarrierUp of_slave) (pos 0);
     }
 
--- a change that may come: a carrier comes at both ends alone
+-- a change that may come: a carrier comes only at both ends together
 abbrev pub MayCome : (life dmin : ℕ) → BothPorts → Change → Type 0
 MayCome life dmin ends (Passes dt) = Unit {0}
 MayCome life dmin ends (Hears role input at) =
@@ -162,17 +161,17 @@ pub record CanBe (life dmin : ℕ) (ends : BothPorts) : Type 0 where
   pub come : AllMayCome life dmin (new_ends of_master of_slave start) changes
   pub is : ends ≡ ends_after (new_ends of_master of_slave start) changes
 
--- when the carriers last came, once a change came too
+-- when the carriers last came, after one more change
 abbrev pub lit_by : BothPorts → Change → ℤ → ℤ
 lit_by ends (Lights of_master of_slave) before = ends.time
 lit_by ends _ before = before
 
--- when the carriers last came, over a list of changes, the newest first; the start, where they never did
+-- when the carriers last came, over a list of changes, the newest first; the start, if they never did
 abbrev pub lit_at : BothPorts → List Change → ℤ
 lit_at ends [] = ends.time
 lit_at ends (change ∷ older) = lit_by (ends_after ends older) change (lit_at ends older)
 
--- the module in place at the port of a role, once a change came too
+-- the module in place at the port of a role, after one more change
 abbrev pub placed_by : Change → Role → Option Module → Option Module
 placed_by (Lights of_master of_slave) Master before = of_master
 placed_by (Lights of_master of_slave) Slave before = of_slave

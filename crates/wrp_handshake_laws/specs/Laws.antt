@@ -1,5 +1,5 @@
--- What holds of every link at every moment, whatever was lost, late, repeated or of an earlier carrier.
--- This project's profile.
+-- What holds of every link at every moment, whatever was lost, late, repeated or of an earlier carrier. This project's
+-- profile.
 use Rattle.std.specs.Prelude.{◌≡◌, ◌≢◌, ◌⊎◌, ℕ, ◌*◌, ℤ, pos, ◌+ℤ◌, ◌<ℤ◌, ◌≤ℤ◌, true, List}
 use Rattle.std.specs.List.{AllByRecursion}
 use Rattle.wrp_base.specs.declared.link.LinkState.{LinkState}

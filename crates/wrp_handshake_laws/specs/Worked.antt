@@ -24,8 +24,8 @@ violet = record { tx = 7; rx = 8; transition = 0; err = 0 }
 abbrev pub set : LinkSet
 set = record { quiet = 2; wait = 5; lock_wait = 5; retries = 1; holdoff = 2; wr = true }
 
--- what happens, the newest first: both nodes start and the carriers come; two ticks of quiet time; an
--- Announce that offers White Rabbit; and the messages, each one heard where the other end has sent it
+-- what happens, the newest first: both nodes start and the carriers come; two ticks of quiet time; an Announce that
+-- offers White Rabbit; and the messages, each one heard when the other end has sent it
 abbrev pub worked_changes : List Change
 worked_changes =
     Hears Slave (Msg WR_MODE_ON) (pos 141) ∷
@@ -54,11 +54,11 @@ worked_changes =
     (Starts Master ∷
     [])))))))))))))))))))))))
 
--- both ends before all that
+-- both ends before all this
 abbrev pub before_it : BothPorts
 before_it = new_ends set set (pos 100)
 
--- both ends once all that has happened
+-- both ends after all this has happened
 abbrev pub after_it : BothPorts
 after_it = ends_after before_it worked_changes
 

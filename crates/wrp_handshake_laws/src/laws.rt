@@ -1,6 +1,6 @@
 //! The laws of one link. Each function here does nothing: its contract is a law, and its proof shows that it
-//! holds after every list of changes that may come, where `quiet - 1` ticks of the least length are longer
-//! than two lives of a frame, at both ends.
+//! holds after every list of changes that may come, if `quiet - 1` ticks of the least length are longer than
+//! two lives of a frame, at both ends.
 ghost use Rattle.wrp_handshake_laws.specs.Laws.{MarksAreAHistory, MasterStaysFromLock, OnInTheSameHandshake};
 ghost use Rattle.wrp_handshake_laws.specs.Laws.{OnWithTheDeltas, QuietTimeOutlivesFrames, SlaveOnWithItsMaster};
 ghost use Rattle.wrp_handshake_laws.specs.Laws.{CarrierWithItsModule, SlaveStaysFromLocked};
@@ -11,8 +11,8 @@ pub fn on_in_the_same_handshake()
     ensures { OnInTheSameHandshake }
 {}
 
-/// A slave in WR_LINK_ON knows the deltas of the modules in place at both ends, those with which the
-/// carriers last came, and the peer's were told in the slave's present stretch.
+/// A slave in WR_LINK_ON knows the deltas of the modules in place at both ends, with which the carriers last
+/// came, and the peer's deltas came in the slave's present stretch.
 pub fn on_with_the_deltas()
     ensures { OnWithTheDeltas }
 {}
@@ -22,8 +22,8 @@ pub fn carrier_with_its_module()
     ensures { CarrierWithItsModule }
 {}
 
-/// The marks of a port are a history: each is a change of the state to which those before it led. And the
-/// port is in the state to which they all lead.
+/// The marks of a port are a history: each is a change of the state to which those before it led. The port
+/// is in the state to which they all lead.
 pub fn marks_are_a_history()
     ensures { MarksAreAHistory }
 {}

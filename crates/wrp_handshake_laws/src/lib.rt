@@ -1,8 +1,8 @@
 //! Why no port of a link is in WR_LINK_ON unless its peer went through the same handshake: laws over one
 //! link, its two ports and the messages between them, whatever is lost, late, repeated or of an earlier
 //! carrier. The functions do nothing; their contracts are the laws. The names of messages and states are
-//! those of the White Rabbit Specification 2.0; the handshake table, the life of a frame and the quiet
-//! time are this project's profile.
+//! the names of the White Rabbit Specification 2.0; the handshake table, the life of a frame and the
+//! quiet time are this project's profile.
 #![tactic(auto)]
 
 mod laws;

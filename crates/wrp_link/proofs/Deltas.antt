@@ -1,4 +1,4 @@
--- The delays that a link keeps are those of the CALIBRATED that moved it in its present handshake.
+-- The delays that a link keeps come from the CALIBRATED that moved it in its present handshake.
 use Rattle.std.proofs.Common.{◌≡◌, ◌≢◌, ◌⊎◌, ◌↔◌, refl, ap, sym, ◌∙◌, subst, inl, inr, ℕ, Bool, true, false, is_some, List, [], ◌∷◌, ◌++◌, Option, None, Some}
 use Rattle.wrp_base.specs.declared.link.LinkState.{LinkState}
 use Rattle.wrp_base.specs.declared.link.LinkState.TheVariants.{Idle, RespCalib}
@@ -14,7 +14,7 @@ use Rattle.wrp_link.specs.Table.{by_row, after, run_of, StandsFor, is_same}
 use Rattle.wrp_link.proofs.Fits.{Fits, row_fits}
 use Rattle.wrp_link.proofs.Orders.{IsOrdered, counted_deltas, after_ordered, run_ordered, new_ordered, idle_unknown_of}
 
--- the delays that stand are in a link that is out of IDLE
+-- the delays that are kept are in a link that is out of IDLE
 pub out_of_idle : (l : LinkAt) (tx rx : ℕ) → IsOrdered l → l.deltas ≡ Some (tx, rx) → l.state ≢ Idle
 out_of_idle l tx rx o e idle =
     let known : is_some l.deltas ≡ true = ap (λ d. is_some d) e in
@@ -30,17 +30,17 @@ differs a b h e =
     let same : is_same a b ≡ true = ap (λ s. is_same a s) (sym e) ∙ is_same_self a in
     cc
 
--- the delays of a pair that stands
+-- the delays of a pair that is kept
 abbrev delays_of : Option (ℕ × ℕ) → ℕ × ℕ
 delays_of (Some d) = d
 delays_of None = (0, 0)
 
--- what an input is to delays that stand after it: they stood before, or it told them
+-- what an input is to delays that are kept after it: they were kept before, or it gave them
 pub record Tells (l : LinkAt) (input : LinkIn) (tx rx : ℕ) : Type 0 where
   pub is : input ≡ Msg (CALIBRATED tx rx)
   pub moved : l.state ≢ (after l input).state
 
--- delays that stand after a row stood before it, or are those of the message
+-- delays that are kept after a row were kept before it, or come from the message
 stood_or_told :
     (l : LinkAt) (input : LinkIn) (row : Row) (tx rx : ℕ) →
     row_of l input ≡ row →
@@ -57,7 +57,7 @@ stood_or_told l input (CarrierComes own_module) tx rx is f e = cc
 stood_or_told l input CarrierGoes tx rx is f e = cc
 stood_or_told l input _ tx rx is f e = inl e
 
--- delays that stand before a row stand after it, out of IDLE
+-- delays that are kept before a row are kept after it, out of IDLE
 stand_on :
     (l : LinkAt) (input : LinkIn) (row : Row) (tx rx : ℕ) →
     Fits l.role l.state input row →
@@ -104,7 +104,7 @@ kept l tx rx =
 none_is_not_some : {A : Type 0} {a : A} → None ≡ Some a → ⊥
 none_is_not_some e = cc
 
--- delays stand as long as the link stays out of IDLE
+-- delays are kept as long as the link stays out of IDLE
 stand_over :
     (l : LinkAt) (since before : List LinkIn) (tx rx : ℕ) →
     IsOrdered l →
@@ -120,7 +120,7 @@ stand_over l (input ∷ since) before tx rx o e out =
     (stand_over l since before tx rx o e out.1)
     out.0
 
--- the delays that stand after inputs were told among them
+-- the delays that are kept after inputs were given in one of them
 pub stand_told :
     (l : LinkAt) (inputs : List LinkIn) (tx rx : ℕ) →
     IsOrdered l → l.deltas ≡ None → (run_of l inputs).deltas ≡ Some (tx, rx) → Told l inputs tx rx
@@ -149,7 +149,7 @@ stand_told l (input ∷ before) tx rx o none e =
           }
     ]
 
--- the delays of a link are those that the peer told
+-- the delays of a link are those that the peer gave
 pub deltas_are_told :
     (l : LinkAt) (inputs : List LinkIn) →
     StandsFor l inputs → (tx rx : ℕ) → (l.deltas ≡ Some (tx, rx)) ↔ Told (new_link l.role l.set) inputs tx rx

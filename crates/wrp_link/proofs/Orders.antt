@@ -1,5 +1,5 @@
--- A link over a list of inputs: its state is one of its role, it passed the states in their order, and
--- it knows the peer's delays exactly in the states after RESP_CALIB_REQ.
+-- A link over a list of inputs: its state is one of its role, it passed the states in their order, and it knows the
+-- peer's delays in the states after RESP_CALIB_REQ and in no others.
 use Rattle.std.proofs.Common.{◌≡◌, ◌≢◌, refl, ap, sym, ◌∙◌, subst, false, is_some, List, [], ◌∷◌, Option, None, Some}
 use Rattle.wrp_base.specs.declared.link.LinkState.{LinkState}
 use Rattle.wrp_base.specs.declared.link.LinkState.TheVariants.{Idle, LinkOn}
@@ -15,7 +15,7 @@ use Rattle.wrp_link.specs.Table.{counted, by_row, after, run_of, StandsFor}
 use Rattle.wrp_link.proofs.Fits.{Belongs, knows, Fits, Follows, row_fits}
 use Rattle.wrp_link.proofs.Runs.{by_row_role}
 
--- a link in a state of its role that knows the peer's delays exactly where it is to
+-- a link in a state of its role that knows the peer's delays if and only if it should
 pub record IsOrdered (l : LinkAt) : Type 0 where
   pub belongs : Belongs l.role l.state
   pub known : is_some l.deltas ≡ knows l.role l.state
@@ -124,7 +124,7 @@ each_state_in_its_turn l inputs stood =
     passed_in_order (new_link l.role l.set) inputs (new_ordered l.role l.set) refl
     ∙ ap (λ k. up_to k.state (order_of l.role)) (sym stood)
 
--- the delays are known in no link that is in IDLE
+-- no link that is in IDLE knows the delays
 pub idle_unknown_of : (l : LinkAt) → IsOrdered l → l.state ≡ Idle → is_some l.deltas ≡ false
 idle_unknown_of l o e = o.known ∙ ap (λ s. knows l.role s) e ∙ sym (idle_unknown l.role)
 

@@ -8,7 +8,7 @@ use Rattle.wrp_link.specs.Laws.{QuietTimeLasts}
 use Rattle.wrp_link.specs.LinkAt.{LinkAt}
 use Rattle.wrp_link.specs.Table.{after, run_of, word_of}
 
--- a link in IDLE, with a carrier and so many ticks of quiet time left
+-- a link in IDLE, with a carrier and this many ticks of quiet time left
 record IsQuiet (l : LinkAt) (quiet : ℕ) : Type 0 where
   lit : l.carrier ≡ true
   idle : l.state ≡ Idle

@@ -1,4 +1,4 @@
--- A waiting state to which nothing comes but ticks: it waits on, takes a retry, or fails.
+-- A waiting state that is given only ticks: it waits on, takes a retry, or fails.
 use Rattle.std.proofs.Common.{◌≡◌, ◌≢◌, ◌⊎◌, inl, inr, refl, ap, ◌∙◌, ℕ, zero, suc, ◌+◌, ◌-◌, ◌*◌, ◌<◌, ◌≤◌, true, false, eqb, ltb, replicate, Some, arith}
 use Rattle.std.proofs.lemmas.Bool.Decides.{nat_tests}
 use Rattle.wrp_base.specs.declared.link.LinkState.{LinkState}
@@ -48,7 +48,7 @@ tries_again l wait w h last left =
     let retry : ltb 0 w.retries ≡ true = grind (arith, nat_tests) in
     waiting_row l wait w h ∙ rw (ends, retry, h.timer, h.length) refl
 
--- it ends without
+-- it ends without a retry left
 fails_then :
     (l : LinkAt) (wait : ℕ) (w : Waiting) →
     IsWaiting l wait w → w.ticks ≡ 1 → w.retries ≡ 0 → after l (Tick false) ≡ failed l
@@ -82,7 +82,7 @@ retry_waits wait (suc r) h =
 no_retry : (wait r : ℕ) → r ≡ 0 → wait * r ≡ 0
 no_retry wait r e = omega (arith, ap (λ k. wait * k) e)
 
--- a port in a waiting state over ticks alone: it is there before its last tick, and in IDLE at it
+-- a port in a waiting state, given only ticks: it is there before its last tick, and in IDLE at it
 record FailsAt (l : LinkAt) (wait : ℕ) (w : Waiting) (ticks : ℕ) : Type 0 where
   before : ticks < patience_of wait w → (run_of l (replicate ticks (Tick false))).state ≡ l.state
   at : ticks ≡ patience_of wait w → (run_of l (replicate ticks (Tick false))).state ≡ Idle

@@ -1,4 +1,4 @@
--- What the fields of a link stand for (names of the White Rabbit Specification 2.0; this project's profile).
+-- What the fields of a link mean (names of the White Rabbit Specification 2.0; this project's profile).
 use Rattle.std.specs.Prelude.{◌≤◌, Option, None, Some}
 use Rattle.wrp_link.specs.declared.machine.Wait.{Wait}
 use Rattle.wrp_link.specs.declared.machine.Link.TheInside.{Inside}

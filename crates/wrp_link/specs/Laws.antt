@@ -1,4 +1,4 @@
--- What the handshake table makes sure of, in the field's words. This project's profile.
+-- What the handshake table ensures, in the field's words. This project's profile.
 use Rattle.std.specs.Prelude.{◌≡◌, ◌≢◌, ℕ, Bool, ◌+◌, ◌*◌, ◌<◌, ◌≤◌, if◌then◌else◌, nat_lt, true, false, List, map, length, replicate, None, Some}
 use Rattle.wrp_base.specs.declared.link.LinkState.{LinkState}
 use Rattle.wrp_base.specs.declared.link.LinkState.TheVariants.{Idle, Calibrated, RespCalib, LinkOn}
@@ -22,15 +22,14 @@ abbrev pub TurnsOn : Role → LinkState → LinkIn → Type 0
 TurnsOn Slave state input = (state ≡ Calibrated) × (input ≡ Msg WR_MODE_ON)
 TurnsOn Master state input = (state ≡ RespCalib) × TellsDeltas input
 
--- a port enters WR_LINK_ON by the message of its role alone
+-- only the message of its role brings a port to WR_LINK_ON
 abbrev pub OneMessageTurnsOn : Type 0
 OneMessageTurnsOn =
     (l : LinkAt) (inputs : List LinkIn) (input : LinkIn) →
     StandsFor l inputs →
     l.state ≢ LinkOn → (after l input).state ≡ LinkOn → TurnsOn l.role l.state input
 
--- the states that a port passed since it last was in IDLE are those of its role up to its own, each in
--- its turn
+-- the states that a port passed since it was last in IDLE are the states of its role up to its own, each in its turn
 abbrev pub EachStateInItsTurn : Type 0
 EachStateInItsTurn =
     (l : LinkAt) (inputs : List LinkIn) →
@@ -53,8 +52,8 @@ QuietTimeLasts =
 abbrev pub patience_of : ℕ → Waiting → ℕ
 patience_of wait w = w.ticks + wait * w.retries
 
--- a port in a waiting state to which nothing comes but ticks, with the lock detector not locked, stays
--- there for exactly the ticks that it has left, less one, and fails at the last
+-- a port in a waiting state that is given only ticks, with the lock detector not locked, stays there for exactly the
+-- ticks that it has left, less one, and fails at the last
 abbrev pub UnheardFails : Type 0
 UnheardFails =
     (l : LinkAt) (w : Waiting) (wait : ℕ) (ticks : ℕ) →

@@ -1,6 +1,5 @@
--- A port's link at a moment: what its setup has come to, and how it starts, enters a state and fails.
--- The names of the states are those of the White Rabbit Specification 2.0; the counts and timers are
--- this project's profile.
+-- A port's link at a moment: what its setup has led to, and how it starts, enters a state and fails. The names of the
+-- states are the names of the White Rabbit Specification 2.0; the counts and timers are this project's profile.
 use Rattle.std.specs.Prelude.{ℕ, Bool, true, false, Option, None, Some}
 use Rattle.wrp_base.specs.declared.link.LinkState.{LinkState}
 use Rattle.wrp_base.specs.declared.link.LinkState.TheVariants.{Idle, Present, SLock, MLock, Locked, Calibration, Calibrated, RespCalib, LinkOn}
@@ -25,11 +24,11 @@ pub record LinkAt : Type 0 where
   -- the ticks of quiet time and of holdoff that are left
   pub quiet : ℕ
   pub holdoff : ℕ
-  -- the timer, in a waiting state alone
+  -- the timer, only in a waiting state
   pub waiting : Option Waiting
   -- the ticks since WR_LINK_ON was entered
   pub on_ticks : ℕ
-  -- the port's module, where the calibration database lists it
+  -- the port's module, if the calibration database lists it
   pub own_module : Option Module
   -- the peer's deltaTx and deltaRx of this handshake, in tau
   pub deltas : Option (ℕ × ℕ)
@@ -62,7 +61,7 @@ wait_of set Calibrated = Some set.wait
 wait_of set RespCalib = Some set.wait
 wait_of set LinkOn = None
 
--- a timer that runs so many ticks, if any, with so many retries
+-- a timer that runs this many ticks, if any, with this many retries
 abbrev pub armed : Option ℕ → ℕ → Option Waiting
 armed None retries = None
 armed (Some ticks) retries = Some (record { ticks = ticks; retries = retries })
@@ -80,6 +79,6 @@ holdoff_of Master set = 0
 abbrev pub failed : LinkAt → LinkAt
 failed l = record (entering l Idle) { quiet = l.set.quiet; holdoff = holdoff_of l.role l.set; deltas = None }
 
--- the link as a carrier comes: IDLE, in quiet time, whatever was before
+-- the link when a carrier comes: IDLE, in quiet time, whatever was before
 abbrev pub with_carrier : LinkAt → Option Module → LinkAt
 with_carrier l own_module = record (new_link l.role l.set) { carrier = true; quiet = l.set.quiet; own_module = own_module }

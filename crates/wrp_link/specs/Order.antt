@@ -1,5 +1,5 @@
--- The order of the states of link setup, and what a list of inputs tells when one looks back over it:
--- the states since IDLE, and the delays that the peer told. The order is this project's profile.
+-- The order of the states of link setup, and what a list of inputs shows when one looks back over it: the states since
+-- IDLE, and the delays that the peer gave. The order is this project's profile.
 use Rattle.std.specs.Prelude.{◌≡◌, ◌≢◌, ℕ, if◌then◌else◌, List, [], ◌∷◌, ◌++◌}
 use Rattle.wrp_base.specs.declared.link.LinkState.{LinkState}
 use Rattle.wrp_base.specs.declared.link.LinkState.TheVariants.{Idle, Present, SLock, MLock, Locked, Calibration, Calibrated, RespCalib, LinkOn}
@@ -31,13 +31,13 @@ abbrev pub passed_by : LinkAt → List LinkIn → List LinkState
 passed_by l [] = Idle ∷ []
 passed_by l (input ∷ before) = passing (passed_by l before) (run_of l before).state (run_of l (input ∷ before)).state
 
--- a link was out of IDLE after these inputs, and after each of those that came since
+-- a link was out of IDLE after these inputs, and after each of the inputs that came since
 abbrev pub StaysOut : LinkAt → List LinkIn → List LinkIn → Type 0
 StaysOut l [] before = (run_of l before).state ≢ Idle
 StaysOut l (input ∷ since) before = ((run_of l (input ∷ (since ++ before))).state ≢ Idle) × StaysOut l since before
 
--- the peer told these delays in the handshake that the link is in after inputs, newest first: one of them
--- is the CALIBRATED that has them, it moved the link, and the link did not return to IDLE since
+-- the peer gave these delays in the handshake that the link is in after inputs, newest first: one of them is the
+-- CALIBRATED that has them, it moved the link, and the link did not return to IDLE since
 pub record Told (l : LinkAt) (inputs : List LinkIn) (tx rx : ℕ) : Type 0 where
   pub since : List LinkIn
   pub before : List LinkIn

@@ -1,6 +1,6 @@
--- The handshake table: for each role and state, what a message, an Announce or a tick leads to and
--- which messages it sends. The names of messages and states are those of the White Rabbit
--- Specification 2.0; the rows are this project's profile.
+-- The handshake table: for each role and state, what a message, an Announce or a tick leads to and which messages it
+-- sends. The names of messages and states are the names of the White Rabbit Specification 2.0; the rows are this
+-- project's profile.
 use Rattle.std.specs.Prelude.{ℕ, ◌%◌, Bool, true, false, if◌then◌else◌, ◌&&◌, ◌==◌, nat_lt, nat_le, is_some, List, [], ◌∷◌, Option, None, Some}
 use Rattle.wrp_base.specs.declared.link.LinkState.{LinkState}
 use Rattle.wrp_base.specs.declared.link.LinkState.TheVariants.{Idle, Present, SLock, MLock, Locked, Calibration, Calibrated, RespCalib, LinkOn}
@@ -49,7 +49,7 @@ abbrev pub own_calibrated : Option Module → WrMsg
 own_calibrated (Some own_module) = CALIBRATED own_module.tx own_module.rx
 own_calibrated None = CALIBRATED 0 0
 
--- a port may leave IDLE: quiet time is over, its module is listed, and the link is a White Rabbit one
+-- a port may leave IDLE: quiet time is over, its module is listed, and the link is a White Rabbit link
 abbrev pub may_leave_idle : LinkAt → Bool
 may_leave_idle l = (l.quiet == 0) && (is_some l.own_module && l.set.wr)
 
@@ -82,7 +82,7 @@ abbrev pub offers : Option ℕ → Bool
 offers (Some flags) = (flags % 2) == 1
 offers None = false
 
--- the row of an Announce: a slave in IDLE begins, once its holdoff is over too
+-- the row of an Announce: a slave in IDLE begins, after its holdoff is over too
 abbrev pub announce_row : LinkAt → Role → LinkState → Option ℕ → Row
 announce_row l Slave Idle suffix =
     under (offers suffix && ((l.holdoff == 0) && may_leave_idle l)) (Moves Present (SLAVE_PRESENT ∷ []))
@@ -110,7 +110,7 @@ tick_row l SLock true = Moves Locked (LOCKED ∷ [])
 tick_row l Calibration _ = Moves Calibrated (own_calibrated l.own_module ∷ [])
 tick_row l _ _ = timer_row l l.waiting
 
--- the row of any input: without a carrier there is none but that of a carrier that comes
+-- the row of any input: without a carrier there is only the row of a carrier that comes
 abbrev pub row_of : LinkAt → LinkIn → Row
 row_of l (Msg message) = under l.carrier (message_row l l.role message)
 row_of l (Announce suffix) = under l.carrier (announce_row l l.role l.state suffix)

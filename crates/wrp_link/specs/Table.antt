@@ -1,5 +1,5 @@
--- The handshake table as a machine: what a link is after an input and after a list of them, what it
--- sends, and what it reports. The rows stand in Rows; the counts are this project's profile.
+-- The handshake table as a machine: what a link is after an input and after a list of them, what it sends, and what it
+-- reports. The rows are in Rows; the counts are this project's profile.
 use Rattle.std.specs.Prelude.{◌≡◌, ℕ, ◌+◌, ◌-◌, min, Bool, true, false, if◌then◌else◌, ◌==◌, List, [], ◌∷◌, Option, None, Some}
 use Rattle.wrp_base.specs.declared.link.LinkState.{LinkState}
 use Rattle.wrp_base.specs.declared.link.LinkState.TheVariants.{Idle, Present, SLock, MLock, Locked, Calibration, Calibrated, RespCalib, LinkOn}
@@ -16,13 +16,13 @@ abbrev pub ticked : Option Waiting → Option Waiting
 ticked None = None
 ticked (Some w) = Some (record w { ticks = w.ticks - 1 })
 
--- one retry less, and the timer armed again with so many ticks
+-- one retry less, and the timer armed again with this many ticks
 abbrev pub retried : Option Waiting → Option ℕ → Option Waiting
 retried (Some w) ticks = armed ticks (w.retries - 1)
 retried None ticks = None
 
--- the link after a tick that is counted: in IDLE the quiet time and the holdoff run, in WR_LINK_ON the
--- ticks of that state are counted, up to the end of their type
+-- the link after a tick that is counted: in IDLE the quiet time and the holdoff run, in WR_LINK_ON the ticks of that
+-- state are counted, up to the end of their type
 abbrev pub counted : LinkAt → LinkState → LinkAt
 counted l Idle = record l { quiet = l.quiet - 1; holdoff = l.holdoff - 1 }
 counted l LinkOn = record l { on_ticks = min (l.on_ticks + 1) 4_294_967_295 }
@@ -62,7 +62,7 @@ abbrev pub is_row : Row → Bool
 is_row NoRow = false
 is_row _ = true
 
--- what a row answers to a message: None where there is none
+-- what a row answers to a message: None if there is none
 abbrev pub answer_by : Row → Option (List WrMsg)
 answer_by row = if is_row row then Some (sent_by row) else None
 
@@ -92,11 +92,11 @@ rank_of LinkOn = 8
 abbrev pub is_same : LinkState → LinkState → Bool
 is_same a b = rank_of a == rank_of b
 
--- the second of two states, where it differs from the first
+-- the second of two states, if it differs from the first
 abbrev pub change_of : LinkState → LinkState → Option LinkState
 change_of from to = if is_same from to then None else Some to
 
--- the state that an input moves the link to, where it differs from the one before
+-- the state that an input moves the link to, if it differs from the one before
 abbrev pub moved_by : LinkAt → LinkIn → Option LinkState
 moved_by l input = change_of l.state (after l input).state
 
@@ -105,7 +105,7 @@ abbrev pub run_of : LinkAt → List LinkIn → LinkAt
 run_of l [] = l
 run_of l (input ∷ before) = after (run_of l before) input
 
--- the link is what these inputs, newest first, and no others, made of a new one of its role and set
+-- the link is what these inputs, newest first, and no others, made of a new link of its role and set
 abbrev pub StandsFor : LinkAt → List LinkIn → Type 0
 StandsFor l inputs = l ≡ run_of (new_link l.role l.set) inputs
 
@@ -118,6 +118,6 @@ word_in state quiet = In state
 abbrev pub word_of : LinkAt → LinkWord
 word_of l = if l.carrier then word_in l.state l.quiet else Down
 
--- the peer's deltaTx and deltaRx that stand, in tau
+-- the peer's deltaTx and deltaRx of this handshake, in tau
 abbrev pub deltas_of : LinkAt → Option (ℕ × ℕ)
 deltas_of l = l.deltas

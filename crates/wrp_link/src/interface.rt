@@ -2,7 +2,7 @@
 use arrayvec::ArrayVec;
 use wrp_base::{LinkState, Module, WrMsg};
 
-/// The counts of a link (this project's profile), each in ticks but for `retries`.
+/// The counts of a link (this project's profile), each in ticks except `retries`.
 #[derive(Clone, Copy, Debug, Default, PartialEq, Eq)]
 pub struct LinkSet {
     /// The quiet time after a carrier came, or after a handshake failed: at least 1.
@@ -11,9 +11,9 @@ pub struct LinkSet {
     pub wait: u32,
     /// The same of S_LOCK and M_LOCK: at least 1.
     pub lock_wait: u32,
-    /// How often a waiting state waits anew before the handshake fails.
+    /// How often a waiting state waits again before the handshake fails.
     pub retries: u32,
-    /// How long a slave whose handshake failed starts no new one.
+    /// How long a slave whose handshake failed does not start a new one.
     pub holdoff: u32,
     /// Whether the link takes part in White Rabbit at all. Without it the port never leaves IDLE.
     pub wr: bool,
@@ -39,9 +39,9 @@ pub enum LinkIn {
 pub struct LinkOut {
     /// The messages to send, in their order.
     pub sends: ArrayVec<WrMsg, 2>,
-    /// The new state: Some exactly where it differs from the one before.
+    /// The new state: Some if and only if it differs from the one before.
     pub moved: Option<LinkState>,
-    /// False exactly where a message has no row in the handshake table for the state. An Announce, a
-    /// tick and a change of carrier are always used.
+    /// False if and only if a message has no row in the handshake table for the state. An Announce,
+    /// a tick and a change of carrier are always used.
     pub used: bool,
 }

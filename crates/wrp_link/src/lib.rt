@@ -1,7 +1,7 @@
 //! The White Rabbit link state machine of one port, in either role: what a message, an Announce, a
 //! tick or a change of carrier does to the state of link setup, and which messages it sends. The
-//! names of messages and states are those of the White Rabbit Specification 2.0; the table of their
-//! order, the timers, the quiet time and the holdoff are this project's profile.
+//! names of messages and states are the names of the White Rabbit Specification 2.0; the table of
+//! their order, the timers, the quiet time and the holdoff are this project's profile.
 #![tactic(auto)]
 
 mod interface;

@@ -126,16 +126,15 @@ impl Link {
         }
     }
 
-    /// The port's own module. None without a carrier, and where the calibration database does not list
-    /// it.
+    /// The port's own module. None without a carrier, or if the calibration database does not list it.
     pub fn own_module(&self) -> Option<Module>
         ensures { result ≡ self.now.own_module }
     {
         self.own_module
     }
 
-    /// The peer's deltaTx and deltaRx, in tau: those of the CALIBRATED that moved this handshake, until
-    /// the port returns to IDLE. None before it has moved the handshake, and in IDLE.
+    /// The peer's deltaTx and deltaRx, in tau, from the CALIBRATED that moved this handshake, until the
+    /// port returns to IDLE. None before a CALIBRATED has moved the handshake, and in IDLE.
     pub fn peer_deltas(&self) -> Option<(u64, u64)>
         ensures value { result ≡ deltas_of self.now }
         ensures told { (inputs : List LinkIn) → StandsFor self.now inputs → (tx rx : ℕ) →
@@ -161,7 +160,7 @@ impl Link {
     }
 }
 
-// The second state, where it differs from the first.
+// The second state, if it differs from the first.
 fn change(from: LinkState, to: LinkState) -> Option<LinkState>
     ensures { result ≡ change_of from to }
 {

@@ -1,4 +1,4 @@
--- The runs of which one thing fails alone are what they are said to be.
+-- The runs of which only one thing fails are what they are said to be.
 use Rattle.std.proofs.Common.{◌≡◌, refl, arith}
 use Rattle.std.proofs.lemmas.Int.{ints}
 use Rattle.wrp_base.specs.declared.link.LinkState.TheVariants.{Idle, LinkOn}

@@ -27,7 +27,7 @@ use Rattle.wrp_link_up_laws.proofs.Steps.{master_patient, slave_patient, master_
 use Rattle.wrp_link_up_laws.proofs.Sums.{on_long, since_lit, below}
 use Rattle.wrp_link_up_laws.proofs.Tells.{IsTick, RowTells, row_tells}
 
--- where a link stands since the carriers came: it comes up, or its slave is in WR_LINK_ON
+-- how far a link is since the carriers came: it comes up, or its slave is in WR_LINK_ON
 pub data Standing (g : Given) (first : BothPorts) (changes : List Change) (lit : ℤ) (ends : BothPorts) : Type 0 where
   coming :
       (me : ℤ) → (se : ℤ) → PortUp g ends.time lit Master ends.master.link ends.master.ticked ends.master.sent me →
@@ -143,7 +143,7 @@ outcome_role :
 outcome_role g time lit role l e input next tick sent ms (stays u same firm q all fresh) = u.same_role
 outcome_role g time lit role l e input next tick sent ms (moves to u same m fresh) = u.same_role
 
--- a port that is awake is so since long after the carriers came
+-- a port that is awake has been awake since long after the carriers came
 pub awake_by :
     (g : Given) (time lit : ℤ) (role : Role) (l : LinkAt) (tick : ℤ) (sent : List Sending) (e : ℤ) →
     Holds g role → PortUp g time lit role l tick sent e → (l.state ≡ Idle) ⊎ (l.state ≢ Idle) → (l.state ≡ Idle → rest_of l ≡ 0) → (lit +ℤ pos (2 * g.life)) <ℤ time
@@ -159,7 +159,7 @@ pub idle_or_out : (s : LinkState) → (s ≡ Idle) ⊎ (s ≢ Idle)
 idle_or_out Idle = inl refl
 idle_or_out _ = inr (λ e. cc)
 
--- what a port that is awake is told, its peer sent since the carriers came
+-- what a port that is awake is given, its peer sent since the carriers came
 told_by :
     (g : Given) (time lit : ℤ) (role other : Role) (p q : Port) (e qe : ℤ) (input : LinkIn) (at0 : ℤ) →
     Holds g role → PortUp g time lit role p.link p.ticked p.sent e → PortUp g time lit other q.link q.ticked q.sent qe →
@@ -227,7 +227,7 @@ slave_safe g first older lit ml sl me se sent (down x) on = (exchange_not_on g f
 slave_safe g first older lit ml sl me se sent (up x) on = (exchange_not_on g first older Master sl ml se me (a_wait g Master) (lit +ℤ pos (by_three g)) x).0 on
 slave_safe g first older lit ml sl me se sent (turning mi si a b o f) on = not_on sl Calibrated si (λ e. cc) on
 
--- what an input makes of a port
+-- what an input does to a port
 pub outcome_of :
     (g : Given) (time lit : ℤ) (role : Role) (p : Port) (e : ℤ) (input : LinkIn) → Step g role time p.link p.ticked e input →
     PortUp g time lit role p.link p.ticked p.sent e →

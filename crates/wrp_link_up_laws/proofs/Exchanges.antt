@@ -88,7 +88,7 @@ not_on_resp Slave l rl input to ms m s told =
 not_on_resp Master l rl input to ms m s told =
     absurd (omega (arith, subst (λ (x : LinkState). 5 ≤ reached Master x) s (told WR_MODE_ON m.0)))
 
--- a giver in CALIBRATION told no delays yet
+-- a giver in CALIBRATION has not given any delays yet
 not_told_yet :
     (taker : Role) (gl : LinkAt) (input : LinkIn) (tx rx : ℕ) → input ≡ Msg (CALIBRATED tx rx) → gl.state ≡ Calibration →
     ((m : WrMsg) → input ≡ Msg m → told_from (other_of taker) m ≤ reached (other_of taker) gl.state) → ⊥
@@ -101,7 +101,7 @@ first_wait_by g role n l e tick time r fresh due =
     some_left g.pace.dmax n r.w.ticks tick e time r.some
     (r.late (ap (λ x. x.retries) (same_waiting r.w fresh.w l.waiting r.is fresh.is) ∙ fresh.all)) due
 
--- what a giver says as it comes to CALIBRATED
+-- what a giver says when it comes to CALIBRATED
 says_calibrated : (role : Role) (l : LinkAt) (input : LinkIn) (to : LinkState) (ms : List WrMsg) → MovesBy l role Calibration input to ms → ms ≡ own_calibrated l.own_module ∷ []
 says_calibrated Slave l input to ms m = m.1.1
 says_calibrated Master l input to ms m = m.1.1
@@ -112,7 +112,7 @@ told_now l role input to time ms m =
     let o : (tx : ℕ) × ((rx : ℕ) × (own_calibrated l.own_module ≡ CALIBRATED tx rx)) = own_told l.own_module in
     (o.0, (o.1.0, subst (λ (xs : List WrMsg). IsAmong (CALIBRATED o.0 o.1.0, time) (stamped time xs [])) (sym (says_calibrated role l input to ms m)) (inl (ap (λ (x : WrMsg). (x, time)) (sym o.1.1)))))
 
--- a CALIBRATED that was told is not heard before its CALIBRATE
+-- a CALIBRATED that was sent is not heard before its CALIBRATE
 not_before : (g : Given) (first : BothPorts) (older : List Change) (taker : Role) (input : LinkIn) (at0 c ge : ℤ) (tx rx : ℕ) →
     InTurn first older (Hears taker input at0) → c ≤ℤ ge → IsUnheard first taker own_calibrate older c → IsHeard taker (CALIBRATED tx rx, ge) (Hears taker input at0) → ⊥
 not_before g first older taker input at0 c ge tx rx turn le o i =
@@ -161,7 +161,7 @@ taker_patient g first older taker time lit gl rl tick sent ge re slack by h u du
     (soon_x ge re time g.pace.dmax (a_wait g (other_of taker)) (within g RespCalib) a
     (exchange_soon g first older taker time tick gl ge hears (first_wait g time lit (other_of taker) gl tick sent ge u gs due) which) (omega (arith, (h (other_of taker)).slower)))
 
--- what a step of the giver makes
+-- the result of a step of the giver
 pub record GiverStepped (g : Given) (first : BothPorts) (changes : List Change) (taker : Role) (time lit : ℤ) (gl rl : LinkAt) (tick : ℤ) (sent : List Sending) (re : ℤ) (slack : ℕ) (by : ℤ) : Type 0 where
   pub e : ℤ
   pub up : PortUp g time lit (other_of taker) gl tick sent e

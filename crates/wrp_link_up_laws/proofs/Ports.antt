@@ -1,4 +1,4 @@
--- What is kept of one port since the carriers came, and what an input makes of it.
+-- What is kept of one port since the carriers came, and what an input does to it.
 use Rattle.std.proofs.Common.{◌≡◌, ◌≢◌, ◌⊎◌, inl, inr, refl, sym, ap, ap₂, ◌∙◌, subst, subst₂, min, max, ℤ, ℕ, ◌+◌, ◌-◌, ◌*◌, ◌<◌, ◌≤◌, pos, Bool, true, false, is_some, List, [], Option, None, Some, arith, ◌+ℤ◌, ◌<ℤ◌, ◌≤ℤ◌}
 use Rattle.std.proofs.lemmas.Int.{ints}
 use Rattle.wrp_base.specs.declared.link.LinkState.{LinkState}
@@ -53,7 +53,7 @@ pub record Given : Type 0 where
 abbrev pub SentAgain : Given → Role → Type 0
 SentAgain g role = ((g.set role).wait * g.pace.dmax ≡ g.slow role) × (g.pace.delay + g.dmin < (g.set role).wait * g.dmin)
 
--- what is asked of the end of a role
+-- what is required of the end of a role
 pub record Holds (g : Given) (role : Role) : Type 0 where
   pub wr : (g.set role).wr ≡ true
   pub outlives : 2 * g.life < ((g.set role).quiet - 1) * g.dmin
@@ -66,7 +66,7 @@ pub record Holds (g : Given) (role : Role) : Type 0 where
   pub wait : 1 ≤ (g.set role).wait
   pub lock_wait : 1 ≤ (g.set role).lock_wait
 
--- what is asked of both ends
+-- what is required of both ends
 abbrev pub BothHold : Given → Type 0
 BothHold g = (role : Role) → Holds g role
 
@@ -214,7 +214,7 @@ pub record Ended (g : Given) (time : ℤ) (l : LinkAt) (e : ℤ) (n : ℕ) (ms :
   pub late : time ≤ℤ (e +ℤ pos (n * g.pace.dmax))
   pub early : (e +ℤ pos (n * g.dmin)) ≤ℤ (time +ℤ pos g.dmin)
 
--- what an input makes of a port
+-- what an input does to a port
 pub data Outcome (g : Given) (time lit : ℤ) (role : Role) (l : LinkAt) (e : ℤ) (input : LinkIn) (next : LinkAt) (tick : ℤ) (sent : List Sending) (ms : List WrMsg) : Type 0 where
   -- it stays
   stays :

@@ -82,7 +82,7 @@ no_holdoff_yet q = omega arith
 as_late : (ticked time : ℤ) (n : ℕ) → ticked ≤ℤ time → (ticked +ℤ pos n) ≤ℤ (time +ℤ pos n)
 as_late ticked time n h = omega (arith, ints, h)
 
--- a port as the carrier comes
+-- a port when the carrier comes
 lit_up :
     (g : Given) (time : ℤ) (role : Role) (p : Port) (own : Module) → g.rest role ≡ (g.set role).quiet → p.link.role ≡ role → p.link.set ≡ g.set role → p.ticked ≤ℤ time →
     ((f : Sending) → IsAmong f p.sent → f.1 ≤ℤ time) → PortUp g time time role (with_carrier p.link (Some own)) p.ticked p.sent time
@@ -234,7 +234,7 @@ waits_by a b pace dmin all e h =
     subst (λ (n : ℕ). n * pace.dmax + pace.dmax + 2 * pace.delay + dmin < all) e
     (subst (λ (n : ℕ). n + 2 * pace.delay + dmin < all) (one_times a pace.dmax) h)
 
--- what the first law asks of both ends
+-- what the first law requires of both ends
 both_hold :
     (life dmin : ℕ) (pace : Pace) (run : LinkRun) → IsServed life dmin pace run → BothOutlast dmin pace run →
     BothHold (given_by life dmin pace run false (slow_by pace run) (max run.of_master.wait run.of_slave.wait * pace.dmax))
@@ -265,7 +265,7 @@ both_hold life dmin pace run served both Slave =
       lock_wait = lock_from (pace.lock + 2 * pace.delay) dmin run.of_slave.lock_wait run.of_slave.retries both.slave.locks;
     }
 
--- what the second law asks of them
+-- what the second law requires of them
 both_hold_in_turn :
     (life dmin : ℕ) (pace : Pace) (run : LinkRun) → IsServed life dmin pace run → BothInTurn dmin pace run →
     BothHold (given_by life dmin pace run true no_wait 0)

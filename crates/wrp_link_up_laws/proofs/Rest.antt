@@ -161,7 +161,7 @@ is_up life dmin pace run turns slow slowest h served turn late =
     } in
     record { master = handshake.slave_on_with_its_master life dmin (last_ends run) can on carrier; slave = on }
 
--- What each law asks
+-- What each law requires
 
 abbrev slow_of : Pace → RestRun → Role → ℕ
 slow_of pace run Master = run.of_master.wait * pace.dmax

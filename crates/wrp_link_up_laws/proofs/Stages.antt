@@ -31,16 +31,16 @@ by_three g = by_two g + g.pace.dmax + a_wait g Master
 abbrev pub by_four : Given → ℕ
 by_four g = by_three g + g.pace.dmax + a_wait g Slave
 
--- where a port waits for CALIBRATE
+-- the state in which a port waits for CALIBRATE
 abbrev pub before_calibrate : Role → LinkState
 before_calibrate Slave = Locked
 before_calibrate Master = Calibrated
 
--- the delays were told, and are not yet heard
+-- the delays were given, and are not yet heard
 abbrev pub Told : Given → BothPorts → Role → List Change → ℤ → Type 0
 Told g first taker changes at = (g.in_turn ≡ true) × ((tx : ℕ) × ((rx : ℕ) × IsUnheard first taker (CALIBRATED tx rx) changes at))
 
--- one end tells its delays, and the other, of this role, takes them
+-- one end gives its delays, and the other, of this role, takes them
 pub data Exchange (g : Given) (first : BothPorts) (changes : List Change) (taker : Role) (gl rl : LinkAt) (ge re : ℤ) (slack : ℕ) (by : ℤ) : Type 0 where
   calls :
       gl.state ≡ Calibration → rl.state ≡ before_calibrate taker → re ≤ℤ ge → ge ≤ℤ (re +ℤ pos slack) → ge ≤ℤ by →
@@ -60,7 +60,7 @@ abbrev pub BothWait : Given → BothPorts → List Change → ℤ → LinkAt →
 BothWait g first changes lit ml sl =
     (rest_of ml ≡ 0) × ((rest_of sl ≡ 0) × ((at : ℤ) × ((at ≤ℤ (lit +ℤ pos (g.quiet * g.pace.dmax))) × IsUnoffered first changes at)))
 
--- where a link stands that comes up
+-- how far a link that comes up is
 pub data Stage (g : Given) (first : BothPorts) (changes : List Change) (lit : ℤ) (ml sl : LinkAt) (me se : ℤ) (sent : List Sending) : Type 0 where
   resting :
       ml.state ≡ Idle → sl.state ≡ Idle → (1 ≤ rest_of ml) ⊎ ((1 ≤ rest_of sl) ⊎ BothWait g first changes lit ml sl) →

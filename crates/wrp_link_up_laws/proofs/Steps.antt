@@ -1,4 +1,4 @@
--- Each stage is left in time: what an input at either end makes of it.
+-- Each stage is left in time: what an input at either end does to it.
 use Rattle.std.proofs.Common.{◌≡◌, ◌≢◌, ◌⊎◌, inl, inr, refl, sym, ap, ◌∙◌, subst, subst₂, ℤ, ℕ, zero, suc, ◌+◌, ◌*◌, ◌≤◌, pos, true, ◌&&◌, ◌==◌, List, [], ◌∷◌, Option, arith, ◌+ℤ◌, ◌≤ℤ◌}
 use Rattle.std.proofs.lemmas.Int.{ints}
 use Rattle.std.proofs.Math.Nat.{mul-le-mul_right}
@@ -93,7 +93,7 @@ quiet_by g role l tick lit time h some soon due =
     soon_y lit time (g.rest role * g.pace.dmax) (g.quiet * g.pace.dmax)
     (quiet_soon g.pace.dmax (g.rest role * g.pace.dmax) (rest_of l) tick lit time some soon due) (mul-le-mul_right g.pace.dmax h.longer)
 
--- by when a link that is not up stands at the latest
+-- the latest time at which a link is still not up
 pub all_soon :
     (g : Given) (first : BothPorts) (older : List Change) (time lit : ℤ) (ml sl : LinkAt) (mtick stick : ℤ) (msent ssent : List Sending) (me se : ℤ) →
     BothHold g → PortUp g time lit Master ml mtick msent me → PortUp g time lit Slave sl stick ssent se → Prompt g first older time mtick stick →
@@ -129,7 +129,7 @@ all_soon g first older time lit ml sl mtick stick msent ssent me se h um us p (u
 all_soon g first older time lit ml sl mtick stick msent ssent me se h um us p (turning mi si a b o f) =
     soon_x me lit time (by_four g) g.pace.delay (by_four g + g.pace.delay) b (p.hears Slave WR_MODE_ON me o) (omega arith)
 
--- what a step makes of a link that comes up
+-- the result of a step of a link that comes up
 pub record Stepped (g : Given) (first : BothPorts) (changes : List Change) (time lit : ℤ) (ml sl : LinkAt) (mtick stick : ℤ) (msent ssent : List Sending) : Type 0 where
   pub me : ℤ
   pub se : ℤ
@@ -141,7 +141,7 @@ zero_or_some : (n : ℕ) → (n ≡ 0) ⊎ (1 ≤ n)
 zero_or_some zero = inl refl
 zero_or_some (suc n) = inr (omega arith)
 
--- what two resting ends wait for, once a change came
+-- what two resting ends wait for, after a change came
 still_rest :
     (g : Given) (first : BothPorts) (older : List Change) (change : Change) (time lit : ℤ) (ml sl ml' sl' : LinkAt) →
     ((1 ≤ rest_of ml) → time ≤ℤ (lit +ℤ pos (g.quiet * g.pace.dmax))) → ((1 ≤ rest_of sl) → time ≤ℤ (lit +ℤ pos (g.quiet * g.pace.dmax))) →

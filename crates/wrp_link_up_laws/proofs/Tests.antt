@@ -1,4 +1,4 @@
--- Tests that decide of a run which is written out whether it is served: what is owed after each change, as lists.
+-- Tests that decide whether a run that is written out is served: what is owed after each change, as lists.
 use Rattle.std.proofs.Common.{◌≡◌, ◌≢◌, ◌⊎◌, inl, inr, refl, sym, ap, ap₂, subst, ℤ, ℕ, pos, Bool, true, false, not, cond, ◌&&◌, ◌==◌, int_le, List, [], ◌∷◌, ◌++◌, ◌+ℤ◌, ◌≤ℤ◌}
 use Rattle.std.specs.Ordering.{int_eq}
 use Rattle.std.proofs.lemmas.Bool.{eqb-true}
@@ -36,7 +36,7 @@ same_time a b e = (Decides-int_eq a b).0 e
 same_number : (a b : ℕ) → (a == b) ≡ true → a ≡ b
 same_number a b e = eqb-true a b e
 
--- whether two messages are one
+-- whether two messages are the same
 abbrev same_message : WrMsg → WrMsg → Bool
 same_message SLAVE_PRESENT SLAVE_PRESENT = true
 same_message LOCK LOCK = true
@@ -104,7 +104,7 @@ one_due p d (x ∷ xs) e i =
     let both_are : (p x ≡ true) × (all_due p xs ≡ true) = both (p x) (all_due p xs) e in
     elim i [ inl same ↦ subst (λ (y : Due). p y ≡ true) (sym same) both_are.0 | inr k ↦ one_due p d xs both_are.1 k ]
 
--- a change by which the port of a role hears a message
+-- a change in which the port of a role hears a message
 abbrev hears_it : Role → Sending → Change → Bool
 hears_it role f (Hears hearer (Msg m) at) = same_role hearer role && (same_message m f.0 && int_eq at f.1)
 hears_it role f _ = false

@@ -1,5 +1,5 @@
--- A link worked out whose first handshake fails, and which then comes up from rest: the holdoff of its slave lasts
--- longer than its quiet time. All times are in tau, all counts in ticks.
+-- A worked example of a link whose first handshake fails, and which then comes up from rest: the holdoff of its slave
+-- lasts longer than its quiet time. All times are in tau, all counts in ticks.
 use Rattle.std.specs.Prelude.{ℕ, pos, true, false, List, [], ◌∷◌, Some}
 use Rattle.wrp_base.specs.declared.link.Role.{Role}
 use Rattle.wrp_base.specs.declared.link.Role.TheVariants.{Master, Slave}
@@ -80,7 +80,7 @@ again_run =
       rest = rests_of;
     }
 
--- all that the laws from rest ask holds of one run whose first handshake failed
+-- all that the laws from rest require holds of one run whose first handshake failed
 pub record WorkedAgain : Type 0 where
   pub served : IsServedFromRest 1 10 pace again_run
   pub outlast : BothOutlastFromRest 10 pace again_run

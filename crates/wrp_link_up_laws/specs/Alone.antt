@@ -1,4 +1,5 @@
--- What the laws ask is needed: runs of which all holds but one thing, and which are not up past the stated time.
+-- What the laws require is needed: runs of which all but one requirement holds, and which are still not up after the
+-- stated time.
 use Rattle.std.specs.Prelude.{◌+◌, ◌*◌, ◌<◌, pos, true, List, [], ◌∷◌, Some}
 use Rattle.wrp_base.specs.declared.link.Role.TheVariants.{Slave}
 use Rattle.wrp_link.specs.declared.interface.LinkIn.TheVariants.{Announce}
@@ -42,7 +43,7 @@ hasty_run =
       since = hasty_changes;
     }
 
--- without retries a link is not up, though its timers keep the two other inequalities of the first law
+-- without retries a link is not up, although its timers keep the two other inequalities of the first law
 pub record NeedsRetries : Type 0 where
   pub served : IsServed 10 10 hasty_pace hasty_run
   pub retry : hasty_pace.delay + 10 < hasty.wait * 10
@@ -50,8 +51,8 @@ pub record NeedsRetries : Type 0 where
   pub past : IsPast hasty_run (time_to_up hasty_pace hasty hasty)
   pub not_up : IsUp (last hasty_run) → ⊥
 
--- where a CALIBRATED overtakes a CALIBRATE a link is not up by the time of the second law, though its timers
--- keep the inequalities of that law
+-- if a CALIBRATED overtakes a CALIBRATE a link is not up by the time of the second law, although its timers keep the
+-- inequalities of that law
 pub record NeedsOrder : Type 0 where
   pub served : IsServed 10 10 slow_pace slow_run
   pub outlasts : OutlastsInTurn 10 slow_pace patient

@@ -39,8 +39,8 @@ lit run = ends_after (new run) (lights run ∷ run.before)
 abbrev pub last : LinkRun → BothPorts
 last run = ends_after (new run) (changes run)
 
--- what both laws ask: White Rabbit at both ends, quiet times that outlive two frames, changes that may come,
--- and good delivery since the carriers came
+-- what both laws require: White Rabbit at both ends, quiet times that outlive two frames, changes that may come, and
+-- good delivery since the carriers came
 pub record IsServed (life dmin : ℕ) (pace : Pace) (run : LinkRun) : Type 0 where
   pub master_wr : run.of_master.wr ≡ true
   pub slave_wr : run.of_slave.wr ≡ true
@@ -54,13 +54,13 @@ pub record BothOutlast (dmin : ℕ) (pace : Pace) (run : LinkRun) : Type 0 where
   pub master : Outlasts dmin pace run.of_master run.of_slave
   pub slave : Outlasts dmin pace run.of_slave run.of_master
 
--- the same where no CALIBRATED overtakes a CALIBRATE, as it is since the carriers came
+-- the same if no CALIBRATED overtakes a CALIBRATE, as it is since the carriers came
 pub record BothInTurn (dmin : ℕ) (pace : Pace) (run : LinkRun) : Type 0 where
   pub master : OutlastsInTurn dmin pace run.of_master
   pub slave : OutlastsInTurn dmin pace run.of_slave
   pub in_turn : AllInTurn (lit run) run.since
 
--- more than so long a time passed since the carriers came
+-- more than this time passed since the carriers came
 abbrev pub IsPast : LinkRun → ℕ → Type 0
 IsPast run time = ((dark run).time +ℤ pos time) <ℤ (last run).time
 
@@ -69,8 +69,8 @@ pub record IsUp (ends : BothPorts) : Type 0 where
   pub master : ends.master.link.state ≡ LinkOn
   pub slave : ends.slave.link.state ≡ LinkOn
 
--- a link that is served well is up once more than the stated time passed, and so at each later moment while
--- this lasts
+-- a link that is served well is up once more than the stated time passed, and at each later moment for as long as it is
+-- served well
 abbrev pub ComesUp : Type 0
 ComesUp =
     (life dmin : ℕ) (pace : Pace) (run : LinkRun) →
@@ -79,7 +79,7 @@ ComesUp =
     IsPast run (time_to_up pace run.of_master run.of_slave) →
     IsUp (last run)
 
--- where no CALIBRATED overtakes a CALIBRATE it is up sooner, and needs no retries
+-- if no CALIBRATED overtakes a CALIBRATE it is up sooner, and needs no retries
 abbrev pub ComesUpInTurn : Type 0
 ComesUpInTurn =
     (life dmin : ℕ) (pace : Pace) (run : LinkRun) →

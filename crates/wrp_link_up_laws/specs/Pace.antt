@@ -31,8 +31,8 @@ pub record Pace : Type 0 where
 abbrev pub patience : (wait retries : ℕ) → ℕ
 patience wait retries = wait + wait * retries
 
--- the timers of an end with its own counts, where its peer has others, outlast what the end waits for; its
--- first tick may come at once, so that n ticks are sure to last n - 1 times dmin alone
+-- the timers of an end with its own counts, if its peer has others, outlast what the end waits for; its first tick may
+-- come at once, so that n ticks are sure to last only n - 1 times dmin
 pub record Outlasts (dmin : ℕ) (pace : Pace) (own peers : LinkSet) : Type 0 where
   -- what was sent as a state was entered is heard before the first retry
   pub retry : pace.delay + dmin < own.wait * dmin
@@ -41,7 +41,7 @@ pub record Outlasts (dmin : ℕ) (pace : Pace) (own peers : LinkSet) : Type 0 wh
   -- so do the lock detector and two messages, in S_LOCK and in M_LOCK
   pub locks : pace.lock + 2 * pace.delay + dmin < patience own.lock_wait own.retries * dmin
 
--- the same where no CALIBRATED overtakes a CALIBRATE: no first wait has to end, and there may be no retries
+-- the same if no CALIBRATED overtakes a CALIBRATE: no first wait has to end, and there may be no retries
 pub record OutlastsInTurn (dmin : ℕ) (pace : Pace) (own : LinkSet) : Type 0 where
   pub waits : pace.dmax + 2 * pace.delay + dmin < patience own.wait own.retries * dmin
   pub locks : pace.lock + 2 * pace.delay + dmin < patience own.lock_wait own.retries * dmin
@@ -53,13 +53,13 @@ IsOwed Begins Meets [] at = ⊥
 IsOwed Begins Meets (change ∷ older) at =
     Begins (change ∷ older) at ⊎ (IsOwed Begins Meets older at × (Meets change → ⊥))
 
--- the port of a role sends a message by a change
+-- the port of a role sends a message in a change
 abbrev pub IsSentBy : BothPorts → Role → Change → Sending → Type 0
 IsSentBy ends role (Hears hearer input at) f =
     (hearer ≡ role) × IsAmong f (stamped ends.time (sent_by (row_of (end_of ends hearer).link input)) [])
 IsSentBy ends role _ f = ⊥
 
--- it sends it by the newest of a list of changes
+-- it sends it in the newest of a list of changes
 abbrev pub SendsNow : BothPorts → Role → WrMsg → List Change → ℤ → Type 0
 SendsNow first role m [] at = ⊥
 SendsNow first role m (change ∷ older) at = IsSentBy (ends_after first older) role change (m, at)
@@ -69,8 +69,8 @@ abbrev pub IsHeard : Role → Sending → Change → Type 0
 IsHeard role f (Hears hearer input at) = (hearer ≡ role) × ((input ≡ Msg f.0) × (at ≡ f.1))
 IsHeard role f _ = ⊥
 
--- the peer of the port of a role sent a message at this time, since the carriers came, and the port has not
--- heard it yet; one hearing is enough, others may come later, and messages of before are never owed
+-- the peer of the port of a role sent a message at this time, since the carriers came, and the port has not heard it
+-- yet; one hearing is enough, others may come later, and messages from before the carriers came are never owed
 abbrev pub IsUnheard : BothPorts → Role → WrMsg → List Change → ℤ → Type 0
 IsUnheard first role m changes at = IsOwed (SendsNow first (other_of role) m) (IsHeard role (m, at)) changes at
 
@@ -83,7 +83,7 @@ pub record IsReady (port : Port) : Type 0 where
   pub awake : IsAwake port
   pub free : (port.link.state ≢ Idle) ⊎ (port.link.holdoff ≡ 0)
 
--- at this time both ends are awake, and the slave is in IDLE, its holdoff over
+-- at this time both ends are awake, and the slave is in IDLE with its holdoff over
 pub record AreAwake (first : BothPorts) (changes : List Change) (at : ℤ) : Type 0 where
   pub master : IsAwake (ends_after first changes).master
   pub slave : IsReady (ends_after first changes).slave
@@ -96,7 +96,7 @@ IsOffered (Hears hearer input at) =
     (hearer ≡ Slave) × ((suffix : Option ℕ) × ((input ≡ Announce suffix) × (offers suffix ≡ true)))
 IsOffered _ = ⊥
 
--- both ends were so at a time, and no Announce has offered White Rabbit since
+-- both ends were awake like this at a time, and no Announce has offered White Rabbit since
 abbrev pub IsUnoffered : BothPorts → List Change → ℤ → Type 0
 IsUnoffered first changes at = IsOwed (AreAwake first) IsOffered changes at
 
@@ -125,14 +125,14 @@ pub record IsPrompt (pace : Pace) (first : BothPorts) (changes : List Change) : 
   pub offered : (at : ℤ) → IsUnoffered first changes at → time_after first changes ≤ℤ (at +ℤ pos pace.announce)
   pub locks : (at : ℤ) → IsUnlocked first changes at → time_after first changes ≤ℤ (at +ℤ pos pace.lock)
 
--- an input by which the carrier neither comes nor goes
+-- an input with which the carrier neither comes nor goes
 abbrev pub LeavesCarrier : LinkIn → Type 0
 LeavesCarrier CarrierDown = ⊥
 LeavesCarrier (CarrierUp fitted) = ⊥
 LeavesCarrier _ = Unit {0}
 
--- a slave that may begin hears an offer only while its master is awake: a master in quiet time sends nothing,
--- and what it sent before that is too old by then; in its own quiet time or holdoff a slave may hear any
+-- a slave that may begin hears an offer only while its master is awake: a master in quiet time sends nothing, and what
+-- it sent before that is too old by then; in its own quiet time or holdoff a slave may hear any offer
 abbrev pub OffersAwake : BothPorts → Role → LinkIn → Type 0
 OffersAwake ends hearer input =
     hearer ≡ Slave →
@@ -153,7 +153,7 @@ IsGood pace first [] = IsPrompt pace first []
 IsGood pace first (change ∷ older) =
     IsSteady (ends_after first older) change × (IsPrompt pace first (change ∷ older) × IsGood pace first older)
 
--- by this change no CALIBRATED overtakes a CALIBRATE: a port hears one only once it has heard each CALIBRATE
+-- in this change no CALIBRATED overtakes a CALIBRATE: a port hears a CALIBRATED only after it has heard each CALIBRATE
 -- that its peer sent earlier or at the same time
 abbrev pub InTurn : BothPorts → List Change → Change → Type 0
 InTurn first older (Hears role input at) =
@@ -161,7 +161,7 @@ InTurn first older (Hears role input at) =
     IsUnheard first role (CALIBRATE pattern retry period) older sent → ⊥
 InTurn first older _ = Unit {0}
 
--- so it is with each of a list of changes, the newest first
+-- this holds of each of a list of changes, the newest first
 abbrev pub AllInTurn : BothPorts → List Change → Type 0
 AllInTurn first [] = Unit {0}
 AllInTurn first (change ∷ older) = InTurn first older change × AllInTurn first older
@@ -174,7 +174,7 @@ time_to_up pace of_master of_slave =
     (max of_master.quiet of_slave.quiet + of_master.wait + of_slave.wait + 2) * pace.dmax
     + pace.announce + pace.lock + 6 * pace.delay
 
--- the same where no CALIBRATED overtakes a CALIBRATE
+-- the same if no CALIBRATED overtakes a CALIBRATE
 abbrev pub time_in_turn : Pace → (of_master of_slave : LinkSet) → ℕ
 time_in_turn pace of_master of_slave =
     (max of_master.quiet of_slave.quiet + 2) * pace.dmax + pace.announce + pace.lock + 6 * pace.delay

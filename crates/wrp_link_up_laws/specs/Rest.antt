@@ -17,7 +17,7 @@ pub record RestRun : Type 0 where
   pub start : ℤ
   pub before : List Change
   pub since : List Change
-  -- since this time neither end has sent anything, and each rests for so many ticks
+  -- since this time neither end has sent anything, and each rests for this many ticks
   pub still : ℤ
   pub rest : Role → ℕ
 
@@ -31,20 +31,20 @@ resting_ends run = ends_after (first_ends run) run.before
 abbrev pub last_ends : RestRun → BothPorts
 last_ends run = ends_after (first_ends run) (run.since ++ run.before)
 
--- a port rests in IDLE, with its carrier and a listed module: since a time it has sent nothing, and from then on
--- it rests for so many ticks, of which some may be over; they outlive two frames
+-- a port rests in IDLE, with its carrier and a listed module: since a time it has sent nothing, and from then on it
+-- rests for this many ticks, of which some may be over; they outlive two frames
 pub record IsResting (life dmin dmax : ℕ) (still : ℤ) (rest : ℕ) (port : Port) : Type 0 where
   pub lit : port.link.carrier ≡ true
   pub listed : is_some port.link.own_module ≡ true
   pub idle : port.link.state ≡ Idle
   pub silent : (f : Sending) → IsAmong f port.sent → f.1 ≤ℤ still
   pub outlives : 2 * life < (rest - 1) * dmin
-  -- its rest ends so late: all of it is left, or so many ticks have passed at the least
+  -- its rest ends no sooner than this: all of it is left, or at least this many ticks have passed
   pub late : (rest_of port.link ≡ rest) ⊎ ((still +ℤ pos (rest * dmin)) ≤ℤ (port.ticked +ℤ pos ((rest_of port.link + 1) * dmin)))
-  -- and so soon
+  -- and no later than this
   pub soon : (rest_of port.link ≡ 0) ⊎ ((port.ticked +ℤ pos (rest_of port.link * dmax)) ≤ℤ (still +ℤ pos (rest * dmax)))
 
--- what both laws ask: White Rabbit at both ends, quiet times that outlive two frames, changes that may come, both
+-- what both laws require: White Rabbit at both ends, quiet times that outlive two frames, changes that may come, both
 -- ends at rest, one of them not to its end, and good delivery since
 pub record IsServedFromRest (life dmin : ℕ) (pace : Pace) (run : RestRun) : Type 0 where
   pub master_wr : run.of_master.wr ≡ true
@@ -62,7 +62,7 @@ pub record BothOutlastFromRest (dmin : ℕ) (pace : Pace) (run : RestRun) : Type
   pub master : Outlasts dmin pace run.of_master run.of_slave
   pub slave : Outlasts dmin pace run.of_slave run.of_master
 
--- the same where no CALIBRATED overtakes a CALIBRATE, as it is since both ends rest
+-- the same if no CALIBRATED overtakes a CALIBRATE, as it is since both ends rest
 pub record BothInTurnFromRest (dmin : ℕ) (pace : Pace) (run : RestRun) : Type 0 where
   pub master : OutlastsInTurn dmin pace run.of_master
   pub slave : OutlastsInTurn dmin pace run.of_slave
@@ -81,12 +81,12 @@ time_from_rest_in_turn pace rests = (rests + 2) * pace.dmax + pace.announce + pa
 abbrev pub longer_rest : RestRun → ℕ
 longer_rest run = max (run.rest Master) (run.rest Slave)
 
--- more than so long a time passed since
+-- more than this time passed since then
 abbrev pub IsPastRest : RestRun → ℕ → Type 0
 IsPastRest run time = (run.still +ℤ pos time) <ℤ (last_ends run).time
 
--- a link that is served well from rest on is up once more than the stated time passed, and so at each later
--- moment while this lasts
+-- a link that is served well from rest on is up once more than the stated time passed, and at each later moment for as
+-- long as it is served well
 abbrev pub ComesUpFromRest : Type 0
 ComesUpFromRest =
     (life dmin : ℕ) (pace : Pace) (run : RestRun) →
@@ -95,7 +95,7 @@ ComesUpFromRest =
     IsPastRest run (time_from_rest pace (longer_rest run) run.of_master run.of_slave) →
     IsUp (last_ends run)
 
--- where no CALIBRATED overtakes a CALIBRATE it is up sooner, and needs no retries
+-- if no CALIBRATED overtakes a CALIBRATE it is up sooner, and needs no retries
 abbrev pub ComesUpFromRestInTurn : Type 0
 ComesUpFromRestInTurn =
     (life dmin : ℕ) (pace : Pace) (run : RestRun) →

@@ -34,7 +34,7 @@ slow_locked =
     Hears Master (Msg SLAVE_PRESENT) (pos 140) ∷
     round slow_offered)))))
 
--- 190: the master's CALIBRATED is heard at once, its CALIBRATE of 180 after it, and so the CALIBRATED in vain
+-- 190: the master's CALIBRATED is heard at once, its CALIBRATE of 180 after it, and so the CALIBRATED is in vain
 abbrev pub slow_called : List Change
 slow_called =
     Hears Slave (Msg (CALIBRATE 0 0 0)) (pos 180) ∷
@@ -48,7 +48,7 @@ slow_told =
     (Hears Slave (Msg (CALIBRATED 5 6)) (pos 220) ∷
     round (round (round (round slow_called))))
 
--- 240: so it goes the other way
+-- 240: the same happens the other way
 abbrev pub slow_answered : List Change
 slow_answered =
     Hears Master (Msg (CALIBRATE 0 0 0)) (pos 230) ∷
@@ -78,7 +78,7 @@ slow_run =
       since = slow_changes;
     }
 
--- the time of the law is met exactly: when it has just passed, a link with all that the law asks is not up yet
+-- the time of the law is met exactly: just after that time, a link with all that the law requires is not up yet
 pub record NoSooner : Type 0 where
   pub served : IsServed 10 10 slow_pace slow_run
   pub outlast : BothOutlast 10 slow_pace slow_run

@@ -1,4 +1,4 @@
--- One link worked out: all that happens from its carriers on, with good delivery. White Rabbit is offered as
+-- A worked example of one link: all that happens from its carriers on, with good delivery. White Rabbit is offered as
 -- soon as both ends are awake, each message is heard at once, and every tick comes 10 tau after the last.
 use Rattle.std.specs.Prelude.{◌≡◌, pos, ◌+ℤ◌, true, false, List, [], ◌∷◌, Some}
 use Rattle.wrp_base.specs.declared.link.Module.{Module}
@@ -54,18 +54,18 @@ locked =
     (Passes 10 ∷
     offered))))
 
--- at 150 the master tells its delays, just after the slave's tick: the slave has to wait for the next one
+-- at 150 the master gives its delays, just after the slave's tick: the slave has to wait for the next one
 abbrev pub told : List Change
 told =
     Hears Master (Msg (CALIBRATE 0 0 0)) (pos 150) ∷
     (Hears Slave (Msg (CALIBRATED 5 6)) (pos 150) ∷
     round locked)
 
--- 160: so long after the carriers the link is up at the latest, where no CALIBRATED overtakes a CALIBRATE
+-- 160: the link is up at the latest this long after the carriers, if no CALIBRATED overtakes a CALIBRATE
 abbrev pub on_time : List Change
 on_time = Passes 10 ∷ told
 
--- and so it is
+-- it is up
 abbrev pub comes_on : List Change
 comes_on =
     Hears Slave (Msg WR_MODE_ON) (pos 160) ∷
@@ -91,15 +91,15 @@ run_of since =
       since = since;
     }
 
--- all that the two laws ask holds of one run
+-- all that the two laws require holds of one run
 pub record WorkedUp : Type 0 where
   pub served : IsServed 1 10 pace (run_of stays_on)
   pub outlast : BothOutlast 10 pace (run_of stays_on)
   pub in_turn : BothInTurn 10 pace (run_of stays_on)
   pub past : IsPast (run_of stays_on) (time_to_up pace upper lower)
 
--- the time where no CALIBRATED overtakes a CALIBRATE is met exactly: when it has just passed, a link with all
--- that the law asks is not up yet
+-- the time for the case in which no CALIBRATED overtakes a CALIBRATE is met exactly: just after that time, a link with
+-- all that the law requires is not up yet
 pub record NoSoonerInTurn : Type 0 where
   pub served : IsServed 1 10 pace (run_of on_time)
   pub in_turn : BothInTurn 10 pace (run_of on_time)

@@ -1,4 +1,4 @@
--- What one call makes of the chain's first sample, of the four, of the lock detector and of the setpoint.
+-- What one call does to the chain's first sample, to the four, to the lock detector and to the setpoint.
 use Rattle.std.specs.Prelude.{◌⊎◌}
 use Rattle.std.proofs.Common.{◌≡◌, refl, ap, ℕ, ℤ, Bool, true, false, cond, Option, None, Some, inl, inr}
 use Rattle.wrp_base.specs.declared.link.Deltas.{Deltas}
@@ -57,7 +57,7 @@ comes-at v s = record { held = record { last = refl; s = refl }; first = refl; k
 pub comes-next : (v : Core) → Comes v (by_carrier v true)
 comes-next v = comes-at v v.state
 
--- a measurement: where its deltas are none nothing changes; in range its four is kept, and else the chain ends
+-- a measurement: if it has no deltas nothing changes; in range its four is kept, else the chain ends
 abbrev pub Answers : (lo hi : ℤ) → Core → Four → ℤ → Option Deltas → Core → Type 0
 Answers lo hi v f y None w = w ≡ v
 Answers lo hi v f y (Some d) w =
@@ -75,7 +75,7 @@ answered-next lo hi v f y (Some d) = answered-by lo hi v f y d (is_in lo hi (x_o
 
 -- ---- samples
 
--- what a sample gives, by the tag that it has where it is heard and good
+-- what a sample gives, by the tag that it has if it is heard and good
 abbrev pub Sampled : Core → ℕ → Option ℕ → Core → Type 0
 Sampled v n None w = (w ≡ v) ⊎ (w ≡ with_last v n)
 Sampled v n (Some tag) w = w ≡ good (with_tag (with_last v n) tag) n
@@ -91,7 +91,7 @@ sample-is v n base bits =
       | false ↦ inl refl
     ]
 
--- a good sample out of range: the chain stays or falls, and the detector rests
+-- a good sample out of range: the chain stays or ends, and the detector rests
 pub record Loses (v w : Core) : Type 0 where
   pub last : w.last ≡ v.last
   pub chain : ((w.first ≡ v.first) × (w.kept ≡ v.kept)) ⊎ ((w.first ≡ None) × (w.kept ≡ None))
@@ -106,7 +106,7 @@ lost-loses v =
       lock = ap (λ (l : Limits). lock_rested l) (turned-limits v.phase.lock (ended v).phase.lock (is_holdover v.state) (is_holdover (ended v).state) t.lock);
     }
 
--- a good sample in range: the chain stays, begins or falls
+-- a good sample in range: the chain stays, begins or ends
 pub record Follows (f : Core) (n : ℕ) (w : Core) : Type 0 where
   pub held : Held f w
   pub chain : (((w.first ≡ f.first) × (w.kept ≡ f.kept)) ⊎ ((w.first ≡ None) × (w.kept ≡ None))) ⊎ ((f.first ≡ None) × (w.first ≡ Some n) × (w.kept ≡ f.kept))

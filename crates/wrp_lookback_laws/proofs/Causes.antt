@@ -1,4 +1,4 @@
--- What begins and ends a chain, asked of the list, is what the servo's rows ask of what they hold.
+-- What begins and ends a chain by the list is what begins and ends it by the servo's rows and what they hold.
 use Rattle.std.specs.Prelude.{◌⊎◌, nat_lt, IsTrue}
 use Rattle.std.proofs.Common.{◌≡◌, ◌↔◌, ◌<◌, refl, ap, ap₂, ◌∙◌, sym, subst, ℕ, ℤ, ◌+◌, ◌-◌, Bool, true, false, cond, not, ◌&&◌, ◌||◌, is_some, Option, None, Some, List, ◌∷◌, inl, inr}
 use Rattle.std.proofs.lemmas.Bool.{false_from_ne_true, or_cases, or_left, or_right, and_parts, and_from, cases_Bool}
@@ -39,7 +39,7 @@ pub record Laws : Type 0 where
 
 -- ---- a good sample
 
--- a good sample in range leaves the detector locked exactly where its error locks it
+-- a good sample in range leaves the detector locked if and only if its error locks it
 locks : Known → (x : ServoSetting) (calls : List Call) (n base bits tag : ℕ) → 0 < x.set.lock_samples → GoodAt x calls n base bits tag →
     Good (with_tag (with_last (run x calls) n) tag) n (good (with_tag (with_last (run x calls) n) tag) n) →
     is_far (with_tag (with_last (run x calls) n) tag).phase.u ≡ false →
@@ -59,7 +59,7 @@ by_parts true locked u L e k = (λ h. inl e, λ h. refl)
 by_parts false true u L e k = (λ h. absurd cc, λ h. absurd (far_or u L e ((k refl).0 refl) h))
 by_parts false false u L e k = (λ h. inr (λ l. let t : false ≡ true = (k refl).1 l in cc), λ h. refl)
 
--- it ends the chain exactly where it unlocks
+-- it ends the chain if and only if it unlocks
 pub unlocks-is : Known → (x : ServoSetting) (calls : List Call) (n base bits : ℕ) → 0 < x.set.lock_samples → (tag : Option ℕ) → tag_at x calls n base bits ≡ tag →
     (unlocks (run x calls) tag ≡ true) ↔ EndsBySample x calls (CallSample n base bits) tag
 unlocks-is known x calls n base bits positive None e = (λ h. cc, λ h. absurd h)
@@ -112,7 +112,7 @@ not_is : (b : Bool) → (not b ≡ true) ↔ (b ≡ false)
 not_is true = (λ h. absurd cc, λ h. absurd cc)
 not_is false = (λ h. refl, λ h. refl)
 
--- where a chain stands
+-- if there is a chain
 pub ends-is : Laws → (x : ServoSetting) (calls : List Call) (call : Call) → 0 < x.set.lock_samples → is_some (run x calls).first ≡ true → (ends x (run x calls) call ≡ true) ↔ Ends x calls call
 ends-is laws x calls (CallSample n base bits) positive stands =
     subst (λ (b : Bool). (b ≡ true) ↔ EndsBySample x calls (CallSample n base bits) (tag_at x calls n base bits)) (sym (sample-ends laws.known x calls n base bits))
@@ -164,11 +164,11 @@ ends-run laws x calls call positive stands (inl e) =
     or_left (ends x (run x calls) call) (is_track (run x calls).state && strays_at x (run x calls) call) ((ends-is laws x calls call positive stands).1 e)
 ends-run laws x calls call positive stands (inr (track, out)) = leaves-by laws x calls call track out (cases_Bool (leaves_track x calls call))
 
--- and what the list ends, the rows end
+-- what the list ends, the rows end
 pub chain-ends : Laws → (x : ServoSetting) (calls : List Call) (call : Call) → 0 < x.set.lock_samples → is_some (run x calls).first ≡ true → EndsChain x calls call → chain_ends x calls call ≡ true
 chain-ends laws x calls call positive stands e = sym (seen-ends laws.known x calls call) ∙ ends-run laws x calls call positive stands e
 
--- ---- where no chain stands
+-- ---- if there is no chain
 
 -- a call begins one, and does not end it
 pub record Begins (x : ServoSetting) (calls : List Call) (call : Call) : Type 0 where

@@ -16,7 +16,7 @@ pub goes : Laws → (x : ServoSetting) (calls : List Call) (call : Call) → 0 <
 goes laws x calls call positive stands never =
     chain_goes laws.chain x calls call stands (false_from_ne_true (chain_ends x calls call) (λ e. never (ends-chain laws x calls call positive stands e)))
 
--- a chain that stands before a call and after it was not ended by it
+-- a chain that is there before a call and after it was not ended by the call
 pub kept_on : Laws → (x : ServoSetting) (calls : List Call) (call : Call) → 0 < x.set.lock_samples → is_some (run x calls).first ≡ true → is_some (run x (call ∷ calls)).first ≡ true → EndsChain x calls call → ⊥
 kept_on laws x calls call positive stands after e =
     not_both (chain_ends x calls call) (chain-ends laws x calls call positive stands e) ((chain_came laws.chain x calls call after).stood stands)
@@ -57,7 +57,7 @@ at-begin : Laws → (x : ServoSetting) (begin : Call) (before : List Call) → 0
 at-begin laws x begin before positive b (inl stood) = goes laws x before begin positive stood b.holds
 at-begin laws x begin before positive b (inr none) = begins laws x before begin positive none b
 
--- what stands and is not ended stands still
+-- what is there and is not ended is still there
 pub since-stands : Laws → (x : ServoSetting) (since before : List Call) → 0 < x.set.lock_samples → is_some (run x before).first ≡ true → NoneEnds x since before → is_some (run x (since ++ before)).first ≡ true
 since-stands laws x [] before positive h n = h
 since-stands laws x (call ∷ since) before positive h n = goes laws x (since ++ before) call positive (since-stands laws x since before positive h n.1) n.0

@@ -1,4 +1,4 @@
--- The lock detector over the list of calls: it is what the errors since its last restart make of one.
+-- The lock detector over the list of calls: it is the one that the errors since its last restart lead to.
 use Rattle.std.specs.Prelude.{IsTrue}
 use Rattle.std.proofs.Common.{◌≡◌, ◌↔◌, ◌<◌, refl, ap, ap₂, ◌∙◌, sym, subst, ℕ, ℤ, ◌-ℤ◌, Bool, true, false, cond, not, ◌||◌, Option, None, Some, List, [], ◌∷◌, inl, inr, arith}
 use Rattle.wrp_base.specs.declared.link.Deltas.{Deltas}

@@ -1,4 +1,4 @@
--- A frame is on a fibre exactly where it departed and nothing since took it off.
+-- A frame is on a fibre if and only if it departed and nothing since took it off.
 use Rattle.std.proofs.Common.{◌≡◌, ◌↔◌, ◌≤◌, refl, ap, ◌∙◌, sym, subst, ℕ, ℤ, ◌+◌, ◌==◌, ◌&&◌, ◌||◌, not, nat_lt, Bool, true, false, if◌then◌else◌, is_some, List, [], ◌∷◌, ◌++◌, Option, None, Some, option_map, arith}
 use Rattle.std.proofs.lemmas.Bool.{eqb-true, ne_eqb}
 use Rattle.std.proofs.lemmas.Option.{same_Some}
@@ -86,7 +86,7 @@ counted s (h ∷ before) i =
 
 -- ---- one event
 
--- what an event makes of a frame that had departed: its way stays, and it is on the fibre unless it is taken off
+-- what an event does to a frame that had departed: its way stays, and it is on the fibre unless it is taken off
 record Flies (f : FrameAt) (taken : Bool) (o : Option FrameAt) : Type 0 where
   now : FrameAt
   is : o ≡ Some now

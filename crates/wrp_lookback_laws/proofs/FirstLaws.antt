@@ -16,7 +16,7 @@ use Rattle.wrp_lookback_laws.proofs.Calls.{Answers, Sampled, Good, Comes, lease-
 use Rattle.wrp_lookback_laws.proofs.Causes.{Laws, Begins}
 use Rattle.wrp_lookback_laws.proofs.ChainLaws.{goes, kept_on, begins, began, stands, from-stands}
 
--- the chain and the four stay, or fall together
+-- the chain and the four stay, or end together
 abbrev pub Lasts : Core → Core → Type 0
 Lasts v w = ((w.first ≡ v.first) × (w.kept ≡ v.kept)) ⊎ ((w.first ≡ None) × (w.kept ≡ None))
 
@@ -38,7 +38,7 @@ sampled-lasts v n (Some tag) w e =
 sample-lasts : (v : Core) (n base bits : ℕ) → LastsOrBegins v n (by_sample v n base bits)
 sample-lasts v n base bits = sampled-lasts v n (cond (hears v) (good_tag v.last n base bits) None) (by_sample v n base bits) (sample-is v n base bits)
 
--- what a call that is no measurement makes of the chain and the four
+-- what a call that is no measurement does to the chain and the four
 abbrev pub CallLasts : Core → Call → Core → Type 0
 CallLasts v (CallSample n base bits) w = LastsOrBegins v n w
 CallLasts v _ w = Lasts v w
@@ -55,7 +55,7 @@ call-lasts x calls CallReset h = inr (refl, refl)
 
 -- ---- the chain's first sample
 
--- it stays, or the chain falls, or it begins with a sample
+-- it stays, or the chain ends, or it begins with a sample
 abbrev First : Core → Call → Core → Type 0
 First v (CallSample n base bits) w = ((w.first ≡ v.first) ⊎ (w.first ≡ None)) ⊎ ((v.first ≡ None) × (w.first ≡ Some n))
 First v _ w = (w.first ≡ v.first) ⊎ (w.first ≡ None)
@@ -176,7 +176,7 @@ since-first laws x (call ∷ since) before n positive is never =
     let rest : (run x (since ++ before)).first ≡ Some n = since-first laws x since before n positive is never.1 in
     call-first x (since ++ before) call n rest (goes laws x (since ++ before) call positive (some_is (run x (since ++ before)).first n rest) never.0)
 
--- a chain that does not stand has no first sample
+-- without a chain there is no first sample
 no_first : Laws → (x : ServoSetting) (calls : List Call) → 0 < x.set.lock_samples → (ChainStands x calls → ⊥) → (o : Option ℕ) → (run x calls).first ≡ o → o ≡ None
 no_first laws x calls positive never None e = refl
 no_first laws x calls positive never (Some n) e = absurd (never (stands laws x calls positive (some_is (run x calls).first n e)))

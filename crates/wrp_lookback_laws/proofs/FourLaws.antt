@@ -20,14 +20,14 @@ use Rattle.wrp_lookback_laws.proofs.Causes.{Laws}
 use Rattle.wrp_lookback_laws.proofs.ChainLaws.{goes, kept_on, stands, from-stands}
 use Rattle.wrp_lookback_laws.proofs.FirstLaws.{Lasts, LastsOrBegins, call-lasts}
 
--- the laws, with what is told while a chain stands
+-- the laws, with what is given while there is a chain
 pub record FourKnown : Type 0 where
   pub laws : Laws
   pub signals : ChainHasSignals
 
--- ---- a four stands only in a chain
+-- ---- there is a four only in a chain
 
--- where no chain stands, no four does
+-- without a chain there is no four
 abbrev InChain : Core → Type 0
 InChain v = v.first ≡ None → v.kept ≡ None
 
@@ -72,7 +72,7 @@ pub first-or_none : (o : Option ℕ) → (is_some o ≡ true) ⊎ (o ≡ None)
 first-or_none None = inr refl
 first-or_none (Some n) = inl refl
 
--- with a four a chain stands
+-- with a four there is a chain
 stands-with : (x : ServoSetting) (calls : List Call) (kept : Measurement) → (run x calls).kept ≡ Some kept → ((is_some (run x calls).first ≡ true) ⊎ ((run x calls).first ≡ None)) → is_some (run x calls).first ≡ true
 stands-with x calls kept is (inl e) = e
 stands-with x calls kept is (inr e) = none_some Measurement (is_some (run x calls).first ≡ true) (run x calls).kept kept (in-chain x calls e) is
@@ -112,7 +112,7 @@ to-sampled known x calls n base bits kept positive before is (inl t) = to-lasts 
 to-sampled known x calls n base bits kept positive before is (inr (none, some, same)) =
     none_some Measurement (FourStands x (CallSample n base bits ∷ calls) kept) (run x calls).kept kept (in-chain x calls none) (sym same ∙ is)
 
--- where a chain stands, the deltas of a measurement are those that were told last
+-- in a chain the deltas of a measurement are the ones that were given last
 deltas-are : (first : Option ℕ) (link told : Option Deltas) → is_some first ≡ true → link ≡ told → option_and_then (λ _. link) first ≡ told
 deltas-are None link told h e = absurd cc
 deltas-are (Some n) link told h e = e
@@ -190,7 +190,7 @@ to-four known x (CallReset ∷ calls) kept positive is = to-lasts known x calls 
 
 -- ---- from it
 
--- where the chain stands still, so does the four
+-- if the chain is still there, so is the four
 lasts-kept : (v w : Core) (kept : Measurement) → v.kept ≡ Some kept → is_some w.first ≡ true → Lasts v w → w.kept ≡ Some kept
 lasts-kept v w kept is some (inl (p, q)) = q ∙ is
 lasts-kept v w kept is some (inr (p, q)) = absurd (not_both (is_some w.first) some (ap is_some p))

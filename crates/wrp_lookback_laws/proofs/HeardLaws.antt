@@ -19,7 +19,7 @@ use Rattle.wrp_lookback_laws.specs.Heard.{is_heard, greatest_heard, tag_at, tags
 use Rattle.wrp_lookback_laws.proofs.Calls.{Answers, Good, lease-next, link-next, gone-next, comes-next, answered-next, good-next}
 use Rattle.wrp_lookback_laws.proofs.Rows.{tick-next}
 
--- what the servo proves of u and of what it was told
+-- what the servo proves of u and of what it was given
 pub record Known : Type 0 where
   pub told : ToldLast
   pub sum : PhaseIsSum

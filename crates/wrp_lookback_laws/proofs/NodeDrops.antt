@@ -1,4 +1,4 @@
--- A node knows of its lease and of WR_LINK_ON after every list of inputs, so that a drop leaves a count alone.
+-- A node knows of its lease and of WR_LINK_ON after every list of inputs, so that a drop changes only a counter.
 use Rattle.std.proofs.Common.{◌≡◌, refl, ap, ℕ, Bool, false, if◌then◌else◌, true, List, [], ◌∷◌, Option, None, Some, is_some}
 use Rattle.wrp_base.specs.declared.link.Role.{Role}
 use Rattle.wrp_base.specs.declared.link.Role.TheVariants.{Master, Slave}

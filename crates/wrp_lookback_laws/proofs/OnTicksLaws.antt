@@ -40,7 +40,7 @@ row-carrier l Counts h on = counted-carrier l l.state h
 row-carrier l (CarrierComes m) h on = refl
 row-carrier l CarrierGoes h on = absurd cc
 
--- without one there is no row but that of a carrier that comes
+-- without a carrier the only row is that of a carrier that comes
 dark-carrier : (l : LinkAt) (b : Bool) (input : LinkIn) → l.carrier ≡ b → HasCarrier l → HasCarrier (after l input)
 dark-carrier l true input e h = row-carrier l (row_of l input) e
 dark-carrier l false (Msg m) e h = subst (λ (b : Bool). HasCarrier (by_row l (under b (message_row l l.role m)))) (sym e) h
@@ -126,7 +126,7 @@ capped role set (input ∷ before) on = step-capped role set before input (is_on
 
 -- ---- the rows
 
--- the one row that asks for the count
+-- the only row that uses the count
 asks : (quiet ticks n : ℕ) → quiet < 2 ^ 32 → ticks ≡ min n 4_294_967_295 → nat_le quiet ticks ≡ nat_le quiet n
 asks quiet ticks n small h = grind (arith, nat_tests)
 

@@ -1,4 +1,4 @@
--- What a row of the servo makes of the chain's first sample, of the four, of the lock detector and of the setpoint.
+-- What a row of the servo does to the chain's first sample, to the four, to the lock detector and to the setpoint.
 use Rattle.std.specs.Prelude.{◌⊎◌, int_le}
 use Rattle.std.proofs.Common.{◌≡◌, refl, ap, ◌∙◌, sym, subst, ℕ, ℤ, Bool, true, false, cond, not, ◌&&◌, nat_le, ◌-◌, is_some, Option, None, Some, inl, inr}
 use Rattle.wrp_base.specs.declared.link.ServoState.{ServoState}
@@ -11,7 +11,7 @@ use Rattle.wrp_servo.specs.Measuring.{by_period, settled, placed, placed_in, aim
 use Rattle.wrp_servo.specs.Sampling.{is_holdover, est_of, residual, is_within, stays_near, may_start, chained, judged, judged_in}
 use Rattle.wrp_servo.specs.Table.{is_track, is_old, is_past_gap, ended, ended_in, ended_by_gap, ended_by_age, uninit_outside_holdover, linked, one_tick, by_tick}
 
--- what no row but a good sample's and a reset's changes
+-- what no row changes except those of a good sample and of a reset
 pub record Held (v w : Core) : Type 0 where
   pub last : w.last ≡ v.last
   pub s : w.phase.s ≡ v.phase.s
@@ -24,7 +24,7 @@ pub record Stays (v w : Core) : Type 0 where
   pub lock : w.phase.lock ≡ v.phase.lock
   pub state : is_holdover w.state ≡ is_holdover v.state
 
--- a detector stays, or rests where HOLDOVER is entered or left
+-- a detector stays, or rests if HOLDOVER is entered or left
 abbrev pub Turned : Detector → Bool → Detector → Bool → Type 0
 Turned l h m k = ((m ≡ l) × (k ≡ h)) ⊎ ((m ≡ lock_rested l.limits) × (k ≡ not h))
 
@@ -83,7 +83,7 @@ pub either : (u : Core) (b : Bool) (v w : Core) → Moves u v → Moves u w → 
 either u true v w h k = h
 either u false v w h k = k
 
--- a change of what is not spoken of here
+-- a change of what is not covered here
 pub quiet : (u v w : Core) → Moves u v → w.last ≡ v.last → w.phase.s ≡ v.phase.s → w.first ≡ v.first → w.kept ≡ v.kept → w.phase.lock ≡ v.phase.lock → is_holdover w.state ≡ is_holdover v.state → Moves u w
 quiet u v w t last s first kept lock state =
     then-stays u v w t (record { held = record { last = last; s = s }; first = first; kept = kept; lock = lock; state = state })
@@ -101,7 +101,7 @@ ended-at v (Some m) SyncPhase = inr (record { held = record { last = refl; s = r
 ended-at v (Some m) WaitStable = inr (record { held = record { last = refl; s = refl }; first = refl; kept = refl; lock = inl (refl, refl) })
 ended-at v (Some m) _ = inr (record { held = record { last = refl; s = refl }; first = refl; kept = refl; lock = inl (refl, refl) })
 
--- where no chain stands, nothing ends
+-- without a chain nothing ends
 ended-none : (w : Core) → w.first ≡ None → ended w ≡ w
 ended-none w h = ap (λ (o : Option ℕ). cond (is_some o) (ended_in w w.state) w) h
 
@@ -125,7 +125,7 @@ then-later u v t =
     let g : Moves u w = either u (is_past_gap v) (ended v) v (then-ended u v t) t in
     either u (is_track w.state && is_old w) (ended w) w (then-ended u w g) g
 
--- what comes of a call: the chain stays or falls, whatever the detector does
+-- what follows from a call: the chain stays or ends, whatever the detector does
 pub record Next (v w : Core) : Type 0 where
   pub held : Held v w
   pub chain : ((w.first ≡ v.first) × (w.kept ≡ v.kept)) ⊎ ((w.first ≡ None) × (w.kept ≡ None))
@@ -222,7 +222,7 @@ then-judged u v s t = t
 judged-moves : (u v : Core) → Moves u v → Moves u (judged v)
 judged-moves u v t = then-judged u v v.state t
 
--- a good sample in range: the chain stays, or begins, and may fall then
+-- a good sample in range: the chain stays, or begins, and may end then
 abbrev pub Begins : Core → ℕ → Core → Type 0
 Begins f n w = Moves f w ⊎ ((f.first ≡ None) × Moves (record f { first = Some n }) w)
 

@@ -25,7 +25,7 @@ head_is a b xs ys e = cc
 pub tail_is : (a b : Call) (xs ys : List Call) → a ∷ xs ≡ b ∷ ys → xs ≡ ys
 tail_is a b xs ys e = cc
 
--- what began stands still, or began by the newest call
+-- what began is still there, or began by the newest call
 back : (starts ends : List Call → Call → Bool) (call : Call) (calls : List Call) (since : List Call) (start : Call) (before : List Call) →
     call ∷ calls ≡ since ++ start ∷ before → starts before start ≡ true → NoneEnds ends since (start ∷ before) →
     (starts calls call ≡ true) ⊎ ((ends calls call ≡ false) × Since starts ends calls)
@@ -62,7 +62,7 @@ chain_goes law x calls call h e = (law x (call ∷ calls)).1 (one_more (chain_st
 pub chain_starts_at : ChainSince → (x : ServoSetting) (calls : List Call) (call : Call) → chain_starts x calls call ≡ true → is_some (run x (call ∷ calls)).first ≡ true
 chain_starts_at law x calls call s = (law x (call ∷ calls)).1 (begun_by (chain_starts x) (chain_ends x) call calls s)
 
--- a chain that stands stood and did not end, or started where none stood
+-- a chain that is there was there and did not end, or started when there was none
 pub record Came (x : ServoSetting) (calls : List Call) (call : Call) : Type 0 where
   pub stood : is_some (run x calls).first ≡ true → chain_ends x calls call ≡ false
   pub began : is_some (run x calls).first ≡ false → starts x (seen x calls) call ≡ true
@@ -98,7 +98,7 @@ chain_came law x calls call h = came_by law x calls call (one_back (chain_starts
 pub track_goes : TrackSince → (x : ServoSetting) (calls : List Call) (call : Call) → is_track (run x calls).state ≡ true → leaves_track x calls call ≡ false → is_track (run x (call ∷ calls)).state ≡ true
 track_goes law x calls call h e = (law x (call ∷ calls)).1 (one_more (enters_track x) (leaves_track x) call calls ((law x calls).0 h) e)
 
--- nothing enters TRACK where it stands
+-- nothing enters TRACK when the servo is in TRACK
 waits : (s : ServoState) → is_track s ≡ true → is_wait_stable s ≡ true → ⊥
 waits Track h e = cc
 waits WaitStable h e = cc
@@ -124,7 +124,7 @@ track_left law x calls call h e =
 pub track_begins : TrackSince → (x : ServoSetting) (calls : List Call) (call : Call) → enters_track x calls call ≡ true → is_track (run x (call ∷ calls)).state ≡ true
 track_begins law x calls call s = (law x (call ∷ calls)).1 (begun_by (enters_track x) (leaves_track x) call calls s)
 
--- TRACK that stands was entered, or stood and was not left
+-- the servo in TRACK entered it, or was in it and did not leave it
 abbrev pub TrackCame : ServoSetting → List Call → Call → Type 0
 TrackCame x calls call = (enters_track x calls call ≡ true) ⊎ ((leaves_track x calls call ≡ false) × (is_track (run x calls).state ≡ true))
 

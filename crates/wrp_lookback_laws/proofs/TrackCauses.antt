@@ -1,4 +1,4 @@
--- What enters and leaves TRACK, asked of the list, is what the servo's rows ask of what they hold.
+-- What enters and leaves TRACK by the list is what enters and leaves it by the servo's rows and what they hold.
 use Rattle.std.specs.Prelude.{◌⊎◌, nat_le, nat_lt}
 use Rattle.std.proofs.Common.{◌≡◌, ◌<◌, refl, ap, ap₂, ◌∙◌, sym, ℕ, ℤ, ◌+◌, ◌-◌, ◌-ℤ◌, Bool, true, false, cond, not, ◌&&◌, ◌||◌, is_some, Option, None, Some, List, ◌∷◌, inl, inr}
 use Rattle.std.proofs.lemmas.Bool.{or_cases, or_left, or_right, and_from, not-true}
@@ -130,7 +130,7 @@ some_kept : (o : Option Measurement) → is_some o ≡ true → (k : Measurement
 some_kept None h = absurd cc
 some_kept (Some k) h = (k, refl)
 
--- in TRACK a four stands
+-- in TRACK there is a four
 kept-there : TrackKnown → (x : ServoSetting) (calls : List Call) → is_track (run x calls).state ≡ true → (k : Measurement) × ((run x calls).kept ≡ Some k)
 kept-there known x calls track = some_kept (run x calls).kept (known.near x calls track).kept
 
@@ -151,7 +151,7 @@ residual-with : (x : ServoSetting) (calls : List Call) (n base bits tag : ℕ) (
 residual-with x calls n base bits tag k g s =
     ap₂ (λ (u z : ℤ). est_of u k -ℤ (u -ℤ z)) (sym g.u) (sym (ap (λ (c : Core). c.phase.s) g.is ∙ s))
 
--- what a good sample strays by, asked of the list
+-- what a good sample strays by, according to the list
 abbrev straying : ServoSetting → List Call → Call → Measurement → Bool
 straying x calls call k = not (is_within x.set.loop_tau (loop_error x (call ∷ calls))) || not (is_within x.set.track_tau (residual_at x (call ∷ calls) k))
 

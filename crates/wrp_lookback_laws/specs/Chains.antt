@@ -1,5 +1,5 @@
--- The chain of good samples, by looking back: a good sample began it, and neither that nor any call since ended it (this
--- project's profile).
+-- The chain of good samples, by looking back: a good sample began it, and neither that sample nor any call since ended
+-- it (this project's profile).
 use Rattle.std.specs.Prelude.{◌≡◌, ◌↔◌, ◌⊎◌, ◌<◌, ℕ, ℤ, Bool, true, false, not, ◌&&◌, ◌||◌, nat_lt, is_some, Option, None, Some, List, [], ◌∷◌, ◌++◌}
 use Rattle.wrp_base.specs.declared.link.Deltas.{Deltas}
 use Rattle.wrp_base.specs.declared.link.ServoState.{ServoState}
@@ -47,8 +47,8 @@ ends_by_four x calls f y (Some d) =
     not (is_in x.lo x.hi (x_of d f))
     || commands_step x.set.clock (state_at x calls) (est_of (u_at x calls) (kept_of f d y))
 
--- a call ends the chain, not by leaving TRACK: also a tick with more than `gap` ticks since the last good sample, a lapse of
--- the lease, a link that goes off, a carrier that goes, and a reset
+-- a call ends the chain, not by leaving TRACK: in addition to the above, a tick with more than `gap` ticks since the
+-- last good sample, a lapse of the lease, a link that goes off, a carrier that goes, and a reset
 abbrev pub Ends : ServoSetting → List Call → Call → Type 0
 Ends x calls (CallSample n base bits) =
     EndsBySample x calls (CallSample n base bits) (tag_of x calls (CallSample n base bits))
@@ -59,7 +59,7 @@ Ends x calls (CallLink on) = is_some on ≡ false
 Ends x calls (CallCarrier up) = up ≡ false
 Ends x calls CallReset = Unit {0}
 
--- TRACK stands before a call, and no more after it
+-- the servo is in TRACK before a call, and no longer after it
 abbrev pub LeavesTrack : ServoSetting → List Call → Call → Type 0
 LeavesTrack x calls call = (is_track (state_at x calls) ≡ true) × (is_track (state_at x (call ∷ calls)) ≡ false)
 
@@ -73,7 +73,7 @@ NoneEnds x (call ∷ since) before = (EndsChain x (since ++ before) call → ⊥
 
 -- ---- the chain
 
--- a chain stands: a call may begin one, and neither it nor any call since ended it
+-- there is a chain: a call may begin one, and neither it nor any call since ended it
 pub record ChainStands (x : ServoSetting) (calls : List Call) : Type 0 where
   pub since : List Call
   pub begin : Call
@@ -88,7 +88,7 @@ ChainLooksBack =
     (x : ServoSetting) (calls : List Call) → 0 < x.set.lock_samples →
     (is_some (run x calls).first ≡ true) ↔ ChainStands x calls
 
--- the chain began at the sample of this number: none stood before it
+-- the chain began at the sample of this number: there was none before it
 pub record ChainBegan (x : ServoSetting) (calls : List Call) (n : ℕ) : Type 0 where
   pub since : List Call
   pub base : ℕ
@@ -100,7 +100,7 @@ pub record ChainBegan (x : ServoSetting) (calls : List Call) (n : ℕ) : Type 0 
   pub holds : EndsChain x before (CallSample n base bits) → ⊥
   pub stays : NoneEnds x since (CallSample n base bits ∷ before)
 
--- the number that the servo holds of its chain is that of the sample at which it began
+-- the number that the servo holds of its chain is the number of the sample at which the chain began
 abbrev pub FirstLooksBack : Type 0
 FirstLooksBack =
     (x : ServoSetting) (calls : List Call) (n : ℕ) → 0 < x.set.lock_samples →

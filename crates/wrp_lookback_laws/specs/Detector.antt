@@ -1,4 +1,4 @@
--- The lock detector, by looking back: the errors of the good samples since its last restart tell whether it is locked
+-- The lock detector, by looking back: the errors of the good samples since its last restart decide whether it is locked
 -- (this project's profile).
 use Rattle.std.specs.Prelude.{◌≡◌, ◌↔◌, ◌<◌, ℕ, ℤ, ◌-ℤ◌, Bool, true, false, IsTrue, cond, not, ◌&&◌, ◌||◌, Option, None, Some, List, [], ◌∷◌}
 use Rattle.wrp_pi.specs.Lock.{Limits, Detector, count_after, IsLocked}
@@ -57,7 +57,7 @@ pub record HasErrors (limits : Limits) (detector : Detector) (since : List ℤ) 
   pub count : detector.count ≡ count_after limits since
   pub locked : IsTrue detector.locked ↔ IsLocked limits since
 
--- the servo's detector is what the errors since its last restart make of one
+-- the servo's detector is the one that the errors since its last restart lead to
 abbrev pub DetectorLooksBack : Type 0
 DetectorLooksBack =
     (x : ServoSetting) (calls : List Call) → 0 < x.set.lock_samples → HasErrors (limits_of x.set) (run x calls).phase.lock (errors x calls)

@@ -1,6 +1,6 @@
--- Which frames are on a fibre, by looking back over the events, the newest first: a frame departed, and since then it did
--- not arrive, its link did not lose it, and no younger frame of its direction arrived. Which frames exist, with their
--- link and sending end, the world tells (this project's profile).
+-- Which frames are on a fibre, by looking back over the events, the newest first: a frame departed, and since then it
+-- did not arrive, its link did not lose it, and no younger frame of its direction arrived. The world gives which frames
+-- exist, with their link and sending end (this project's profile).
 use Rattle.std.specs.Prelude.{◌≡◌, ◌↔◌, ◌==◌, ◌&&◌, ◌||◌, ℕ, nat_lt, Bool, true, false, is_some, Option, None, Some, List, [], ◌∷◌, ◌++◌}
 use Rattle.wrp_base.specs.declared.link.Role.{Role}
 use Rattle.wrp_course.specs.declared.event.Event.{Event}
@@ -37,7 +37,7 @@ pub record StillFlies (s : Setting) (events : List Happened) (i k : ℕ) (r : Ro
   pub departs : is_some ((world_after s (departure ∷ before)).frame i) ≡ true
   pub none : NoneTakes s i k r since (departure ∷ before)
 
--- a frame that departed is on a fibre exactly where that holds of it
+-- a frame that departed is on a fibre if and only if that holds of it
 abbrev pub FibresLookBack : Type 0
 FibresLookBack =
     (s : Setting) (events : List Happened) (i : ℕ) (f : FrameAt) → (world_after s events).frame i ≡ Some f →

@@ -1,5 +1,5 @@
--- The four that stands, by looking back: the newest measurement of the chain in the law's range, with no end of the chain
--- and no step since (this project's profile).
+-- The four that a servo holds, by looking back: the newest measurement of the chain in the law's range, with no end of
+-- the chain and no step since (this project's profile).
 use Rattle.std.specs.Prelude.{◌≡◌, ◌↔◌, ◌<◌, ℤ, Bool, true, false, Some, List, [], ◌∷◌, ◌++◌}
 use Rattle.wrp_base.specs.declared.link.Deltas.{Deltas}
 use Rattle.wrp_servo.specs.declared.machine.Measurement.{Measurement}
@@ -17,8 +17,8 @@ abbrev pub NoneMeasures : List Call → Type 0
 NoneMeasures [] = Unit {0}
 NoneMeasures (call ∷ since) = (is_measured call ≡ false) × NoneMeasures since
 
--- a measurement brought the four in a chain, in the law's range, its delay reckoned by the deltas of then; it and the calls
--- since did not end that chain, and none of these was a measurement
+-- a measurement brought the four in a chain, in the law's range, its delay computed from the deltas of that time; it
+-- and the calls since did not end that chain, and none of these was a measurement
 pub record FourStands (x : ServoSetting) (calls : List Call) (kept : Measurement) : Type 0 where
   pub since : List Call
   pub answer : ℤ

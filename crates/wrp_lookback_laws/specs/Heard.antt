@@ -1,5 +1,5 @@
--- What a servo heard, by looking back over the list of its calls, the newest first: which samples were good, their tags,
--- u, and the ticks since the last of them. Of the servo's running values the state and the setpoint alone are asked
+-- What a servo heard, by looking back over the list of its calls, the newest first: which samples were good, their
+-- tags, u, and the ticks since the last of them. Of the servo's running values only the state and the setpoint are used
 -- (this project's profile).
 use Rattle.std.specs.Prelude.{ℕ, ℤ, pos, ◌+◌, Bool, true, cond, not, ◌&&◌, nat_lt, max, is_some, Option, None, List, [], ◌∷◌}
 use Rattle.wrp_base.specs.declared.link.ServoState.{ServoState}
@@ -34,8 +34,7 @@ greatest_heard x (CallSample n base bits ∷ calls) =
     cond (is_heard x calls) (max (greatest_heard x calls) n) (greatest_heard x calls)
 greatest_heard x (_ ∷ calls) = greatest_heard x calls
 
--- the tag of a sample that comes after these calls, where it is good: it is heard, newer than all before, and not
--- glitched
+-- the tag of a sample that comes after these calls, if it is good: it is heard, newer than all before, and not glitched
 abbrev pub tag_at : ServoSetting → List Call → ℕ → ℕ → ℕ → Option ℕ
 tag_at x calls n base bits =
     cond (is_heard x calls) (cond (nat_lt (greatest_heard x calls) n) (deglitched base bits) None) None
@@ -58,7 +57,7 @@ tags_since x (CallTick ∷ calls) =
 tags_since x (CallSample n base bits ∷ calls) = with_more x (tags_since x calls) (tag_at x calls n base bits)
 tags_since x (_ ∷ calls) = tags_since x calls
 
--- u after these calls, in tau: that of the last good sample since the last reset, and 0 where there is none
+-- u after these calls, in tau: u at the last good sample since the last reset, and 0 if there is none
 abbrev pub u_at : ServoSetting → List Call → ℤ
 u_at x [] = pos 0
 u_at x (CallReset ∷ calls) = pos 0
@@ -67,7 +66,7 @@ u_at x (_ ∷ calls) = u_at x calls
 
 -- ---- ticks
 
--- the ticks since the last good sample, or since the last reset where none came
+-- the ticks since the last good sample, or since the last reset if none came
 abbrev pub ticks_without : ServoSetting → List Call → ℕ
 ticks_without x [] = 0
 ticks_without x (CallTick ∷ calls) = ticks_without x calls + 1

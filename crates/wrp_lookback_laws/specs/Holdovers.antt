@@ -6,7 +6,8 @@ use Rattle.wrp_servo.specs.Sampling.{is_holdover}
 use Rattle.wrp_lookback_laws.specs.Heard.{state_at}
 use Rattle.wrp_lookback_laws.specs.Tracks.{Leaves, TrackStands}
 
--- TRACK stood, a call other than a reset left it, and since then there were no reset and fewer than `holdover` ticks
+-- the servo was in TRACK, a call other than a reset left it, and since then there were no reset and fewer than
+-- `holdover` ticks
 pub record HoldoverStands (x : ServoSetting) (calls : List Call) : Type 0 where
   pub since : List Call
   pub leave : Call

@@ -1,6 +1,6 @@
--- The ticks of a link in WR_LINK_ON, by looking back over its inputs, the newest first: those since the state was entered,
--- however many they are; which state it is, is the link's running value. The names of the states are those of the White
--- Rabbit Specification 2.0; the count is this project's profile.
+-- The ticks of a link in WR_LINK_ON, by looking back over its inputs, the newest first: the ticks since the state was
+-- entered, however many they are; the link's running value gives which state it is. The names of the states are those
+-- of the White Rabbit Specification 2.0; the count is this project's profile.
 use Rattle.std.specs.Prelude.{◌≡◌, ◌^◌, ◌<◌, ◌+◌, ℕ, Bool, true, false, if◌then◌else◌, min, List, [], ◌∷◌}
 use Rattle.wrp_base.specs.declared.link.LinkState.{LinkState}
 use Rattle.wrp_base.specs.declared.link.LinkState.TheVariants.{LinkOn}
@@ -24,7 +24,7 @@ abbrev pub one_more : LinkIn → ℕ → ℕ
 one_more (Tick locked) ticks = ticks + 1
 one_more _ ticks = ticks
 
--- the ticks that came since WR_LINK_ON was entered, where the link is there
+-- the ticks that came since WR_LINK_ON was entered, if the link is there
 abbrev pub ticks_on : Role → LinkSet → List LinkIn → ℕ
 ticks_on role set [] = 0
 ticks_on role set (input ∷ before) =
@@ -34,13 +34,13 @@ ticks_on role set (input ∷ before) =
 abbrev pub told_ticks : Role → LinkSet → List LinkIn → LinkAt
 told_ticks role set inputs = record (link_after role set inputs) { on_ticks = ticks_on role set inputs }
 
--- the count that a link holds is that one, held at the end of its type
+-- the count that a link holds is this one, held at the end of its type
 abbrev pub CountIsHeld : Type 0
 CountIsHeld =
     (role : Role) (set : LinkSet) (inputs : List LinkIn) → is_on (link_after role set inputs).state ≡ true →
     (link_after role set inputs).on_ticks ≡ min (ticks_on role set inputs) 4_294_967_295
 
--- that it is held there has no effect: each input has the row that it has with the whole count
+-- holding it there has no effect: each input has the row that it has with the whole count
 abbrev pub WholeCountDecides : Type 0
 WholeCountDecides =
     (role : Role) (set : LinkSet) (inputs : List LinkIn) (input : LinkIn) → set.quiet < 2 ^ 32 →

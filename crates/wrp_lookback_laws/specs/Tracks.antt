@@ -42,13 +42,13 @@ abbrev pub EntersTrack : ServoSetting → List Call → Call → Type 0
 EntersTrack x calls (CallMeasured f y) = EntersBy x calls f y
 EntersTrack x calls _ = ⊥
 
--- the four that stands is further off than its limit after the good sample
+-- the four that the servo holds is further off than its limit after the good sample
 pub record IsFarOff (x : ServoSetting) (calls : List Call) (call : Call) : Type 0 where
   pub kept : Measurement
   pub stands : FourStands x calls kept
   pub far : is_within x.set.track_tau (residual_at x (call ∷ calls) kept) ≡ false
 
--- a good sample strays: with it e_tau, or the residual of the four that stands, is past its limit
+-- a good sample strays: with it e_tau, or the residual of the four that the servo holds, is past its limit
 abbrev pub StraysBySample : ServoSetting → List Call → Call → Option ℕ → Type 0
 StraysBySample x calls call None = ⊥
 StraysBySample x calls call (Some tag) =
@@ -60,13 +60,13 @@ pub record StraysByFour (x : ServoSetting) (calls : List Call) (f : Four) (y : �
   pub link : link_told calls ≡ Some deltas
   pub far : is_within x.set.track_tau (residual_at x calls (kept_of f deltas y)) ≡ false
 
--- the four that stands is more than `age` ticks old at this tick
+-- the four that the servo holds is more than `age` ticks old at this tick
 pub record IsOld (x : ServoSetting) (calls : List Call) : Type 0 where
   pub kept : Measurement
   pub stands : FourStands x calls kept
   pub old : nat_lt x.set.age (ticks_told (CallTick ∷ calls) - kept.four.tick) ≡ true
 
--- a call leaves TRACK: it ends the chain in any case, or by a cause of TRACK alone
+-- a call leaves TRACK: it ends the chain in any case, or it has a cause that only TRACK has
 abbrev pub Strays : ServoSetting → List Call → Call → Type 0
 Strays x calls (CallSample n base bits) =
     StraysBySample x calls (CallSample n base bits) (tag_of x calls (CallSample n base bits))

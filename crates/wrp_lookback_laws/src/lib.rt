@@ -1,6 +1,6 @@
 //! Running values as what one finds by looking back over a whole list. The functions do nothing; their
 //! contracts are the laws: on every list the value that is kept call by call is the one that looking back
-//! finds, and a drop at a node changes a counter alone. All rules are this project's profile.
+//! finds, and a drop at a node changes only a counter. All rules are this project's profile.
 #![tactic(auto)]
 
 mod fibres;

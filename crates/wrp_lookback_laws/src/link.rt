@@ -2,8 +2,8 @@
 //! its contract is the law.
 ghost use Rattle.wrp_lookback_laws.specs.OnTicks.{CountIsHeld, WholeCountDecides};
 
-/// A link's count of ticks in WR_LINK_ON is that of all ticks since the state was entered, held at 4,294,967,295;
-/// and that it is held there has no effect: after every list of inputs each further one has the row of the
+/// A link's count of ticks in WR_LINK_ON is the count of all ticks since the state was entered, held at
+/// 4,294,967,295. Holding it there has no effect: after every list of inputs each further one has the row of the
 /// handshake table that it has with the whole count, for every quiet time below `2^32`.
 pub fn ticks_are_whole()
     ensures count { CountIsHeld }

@@ -1,6 +1,6 @@
 //! What a servo holds, by looking back over the list of all its calls. Each function here computes nothing:
-//! its contract is the law. Of the servo's running values the definitions ask for its state and its setpoint
-//! alone, and those of TRACK and HOLDOVER for the calm count.
+//! its contract is the law. Of the servo's running values the definitions use only its state and its setpoint,
+//! and the definitions of TRACK and HOLDOVER also the calm count.
 ghost use Rattle.wrp_lookback_laws.specs.Chains.{ChainLooksBack, FirstLooksBack};
 ghost use Rattle.wrp_lookback_laws.specs.Detector.{DetectorLooksBack};
 ghost use Rattle.wrp_lookback_laws.specs.Fours.{FourLooksBack};
@@ -12,9 +12,9 @@ use wrp_servo::{
     track_is_near, track_since,
 };
 
-/// The lock detector is locked exactly where the errors of the good samples since its last restart lock it.
+/// The lock detector is locked if and only if the errors of the good samples since its last restart lock it.
 /// It restarts at a reset, at a carrier that goes, at one that comes outside HOLDOVER, at a good sample out of
-/// range, and where HOLDOVER is entered or left.
+/// range, and when HOLDOVER is entered or left.
 pub fn detector_looks_back()
     ensures { DetectorLooksBack }
 {
@@ -22,8 +22,8 @@ pub fn detector_looks_back()
     phase_is_sum();
 }
 
-/// A chain stands exactly where a good sample that may begin one came, and neither it nor any call since ended
-/// it; and its number is that of the sample at which it began.
+/// There is a chain if and only if a good sample that may begin one came, and neither it nor any call since
+/// ended it. The chain's number is the number of the sample at which it began.
 pub fn chain_looks_back()
     ensures stands { ChainLooksBack }
     ensures first { FirstLooksBack }
@@ -36,8 +36,8 @@ pub fn chain_looks_back()
     track_is_near();
 }
 
-/// The four that stands is the newest measurement of the chain, in the law's range, with no end of the chain
-/// and no step since.
+/// The four that the servo holds is the newest measurement of the chain, in the law's range, with no end of
+/// the chain and no step since.
 pub fn four_looks_back()
     ensures { FourLooksBack }
 {
@@ -50,8 +50,8 @@ pub fn four_looks_back()
     track_is_near();
 }
 
-/// TRACK stands exactly where a measurement entered it and no call since left it: by an end of the chain, by a
-/// loop error or a residual past its limit, or by a four that is too old.
+/// The servo is in TRACK if and only if a measurement entered it and no call since left it: by an end of the
+/// chain, by a loop error or a residual past its limit, or by a four that is too old.
 pub fn track_looks_back()
     ensures { TrackLooksBack }
 {
@@ -64,8 +64,8 @@ pub fn track_looks_back()
     track_is_near();
 }
 
-/// HOLDOVER stands exactly where a call other than a reset left TRACK, by these causes, and since then there
-/// were no reset and fewer than `holdover` ticks.
+/// The servo is in HOLDOVER if and only if a call other than a reset left TRACK, by these causes, and since
+/// then there were no reset and fewer than `holdover` ticks.
 pub fn holdover_looks_back()
     ensures { HoldoverLooksBack }
 {

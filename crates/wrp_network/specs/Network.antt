@@ -18,7 +18,7 @@ node_count net = length net.nodes.items
 abbrev pub IsNode : NetCfg → ℕ → NodeCfg → Type 0
 IsNode net n node = slice_get net.nodes.items n ≡ Some node
 
--- the name of the node of this number; no octets where there is none
+-- the name of the node of this number; no octets if there is none
 abbrev pub name_at : NetCfg → ℕ → List ℕ
 name_at net n = option_map_or (λ node. node.name.bytes) (slice_get net.nodes.items n) []
 
@@ -28,7 +28,7 @@ IsLink net l link = slice_get net.links.items l ≡ Some link
 
 -- Ranges
 
--- a wavelength in nm, where 0 stands for any
+-- a wavelength in nm, where 0 means any
 abbrev pub IsWavelength : ℕ → Type 0
 IsWavelength n = (n ≡ 0) ⊎ IsAmong 800 1_700 n
 
@@ -102,7 +102,7 @@ abbrev pub ends_of : LinkCfg → List End
 ends_of link =
     record { node = link.upper; port = link.upper_port } ∷ (record { node = link.lower; port = link.lower_port } ∷ [])
 
--- no port of a node stands at two ends of links
+-- no port of a node is at two ends of links
 abbrev pub NamesNoPortTwice : NetCfg → Type 0
 NamesNoPortTwice net =
     (i j : ℕ) (end : End) →
@@ -120,7 +120,7 @@ link_above net n = find (λ link. link.lower == n) net.links.items
 abbrev pub IsGrandmaster : NetCfg → ℕ → Type 0
 IsGrandmaster net n = (n < node_count net) × (link_above net n ≡ None)
 
--- so many links lead from the node upwards to one that has no link above it
+-- this many links lead from the node upwards to one that has no link above it
 abbrev pub HasDepth : NetCfg → ℕ → ℕ → Type 0
 HasDepth net zero n = link_above net n ≡ None
 HasDepth net (suc depth) n = (link : LinkCfg) × (link_above net n ≡ Some link) × HasDepth net depth link.upper

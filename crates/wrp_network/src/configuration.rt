@@ -27,7 +27,7 @@ pub struct NetCfg {
     pub wait: i64,
     /// The timer of S_LOCK and M_LOCK, in ticks: 1 to `10^6`.
     pub lock_wait: i64,
-    /// How long a slave leaves Announce alone after a failure, in ticks: 1 to `10^6`.
+    /// How long a slave ignores Announce after a failure, in ticks: 1 to `10^6`.
     pub holdoff: i64,
     /// The lease, in ticks: 1 to `10^6`.
     pub lease: i64,
@@ -73,10 +73,10 @@ pub struct NetCfg {
     pub nodes: Nodes,
     /// The links; a link is named by its place from 0.
     pub links: Links,
-    /// The greatest `err` of the listed modules, in tau: 0 to `10^9`, and 0 where none is listed.
+    /// The greatest `err` of the listed modules, in tau: 0 to `10^9`, and 0 if none is listed.
     pub e_db: u64,
-    /// The greatest `tx` of the listed modules, in tau: 0 to `10^12`, and 0 where none is listed.
+    /// The greatest `tx` of the listed modules, in tau: 0 to `10^12`, and 0 if none is listed.
     pub tx_max: u64,
-    /// The greatest `rx` of the listed modules, in tau: 0 to `10^12`, and 0 where none is listed.
+    /// The greatest `rx` of the listed modules, in tau: 0 to `10^12`, and 0 if none is listed.
     pub rx_max: u64,
 }

@@ -24,7 +24,7 @@ pub struct NodeCfg {
     pub e_tag: u64,
     /// `beat`, how far from the edge the beat bits may flicker, in detector steps: 0 to 24.
     pub beat: u16,
-    /// `slew`, the greatest rate of the clock where it is locked, in `10^-12`: 0 to `10^9`.
+    /// `slew`, the greatest rate of the clock when it is locked, in `10^-12`: 0 to `10^9`.
     pub slew: u64,
     /// `held`, the greatest rate of the clock in HOLDOVER, in `10^-12`: 0 to `10^9`.
     pub held: u64,

@@ -1,4 +1,4 @@
--- The network of a text whose tables are taken is accepted, where its links make a tree and it keeps the inequalities.
+-- The network of a text whose tables are taken is accepted, if its links make a tree and it keeps the inequalities.
 use Rattle.std.proofs.Common.{◌≡◌, ◌<◌, ℕ, List, [], ◌∷◌, true, false, None, Some, map, take, length, refl, sym, ap, ap₂, subst, ◌∙◌, arith}
 use Rattle.std.specs.Prelude.{codes, slice_get}
 use Rattle.std.specs.List.{list_any, before_first, after_first}
@@ -149,7 +149,7 @@ link_name_list doc cfg is =
     ∙ ap (map (λ (link : LinkCfg). link.name.bytes)) (link_items doc cfg is)
     ∙ map-map (λ (link : LinkCfg). link.name.bytes) (link_in doc) (link_tables doc)
 
--- a link beside its table
+-- a link with its table
 pub record IsLinkOf (doc : Members) (t : Members) (link : LinkCfg) : Type 0 where
   pub upper : HasEnd (tables_at (codes "node") doc) (codes "upper") t
   pub lower : HasEnd (tables_at (codes "node") doc) (codes "lower") t
@@ -173,7 +173,7 @@ ends_of_link doc taken l t at link is =
       lower_port = ap (λ (x : LinkCfg). x.lower_port) is ∙ ap (λ e. e.1) lower.read;
     }
 
--- one end of a link is not another, where their texts are not the same
+-- one end of a link is not another, if their texts are not the same
 other_end : (nodes : List Data) (ka kb : List ℕ) (s t : Members) (a : HasEnd nodes ka s) (b : HasEnd nodes kb t)
     → are_same_texts (text_at ka s) (text_at kb t) ≡ false → a.end.0 ≡ b.end.0 → a.end.1 ≡ b.end.1 → ⊥
 other_end nodes ka kb s t a b told node port =

@@ -1,4 +1,4 @@
--- Each text has an answer that is not want of memory.
+-- Each text has an answer that is not out of memory.
 use Rattle.std.proofs.Common.{◌≡◌, ◌<◌, ◌++◌, ◌+◌, ◌⊎◌, ℕ, zero, suc, List, Bool, true, false, Option, None, Some, Result, Ok, Err, inl, inr, map, refl, sym, ap, subst, ◌∙◌, arith}
 use Rattle.std.proofs.lemmas.Bool.{cases_Bool, cases_lt, false≢true}
 use Rattle.std.proofs.lemmas.Str.{IsUtf8-from_is_utf8, is_utf8-from_IsUtf8}

@@ -1,4 +1,4 @@
--- Identities that hex digits spell: below 2^64, and different where the digits are.
+-- Identities that hex digits spell: below 2^64, and different if the digits are.
 use Rattle.std.proofs.Common.{◌≡◌, ◌<◌, ◌≤◌, ◌+◌, ◌-◌, ◌*◌, ◌^◌, ◌==◌, ℕ, zero, suc, List, [], ◌∷◌, Bool, true, false, Option, None, Some, cond, fold, length, drop, get_or, drop-cons, refl, sym, ap, ap₂, ◌∙◌, arith, lit<}
 use Rattle.std.proofs.lemmas.Bool.{and_parts, eqb-true}
 use Rattle.std.proofs.lemmas.Bool.Decides.{nat_tests}
@@ -11,7 +11,7 @@ use Rattle.wrp_network_text.specs.Config.{hex_value, hex_number, identity_of}
 abbrev step : ℕ → ℕ → ℕ
 step n c = 16 * n + hex_value c
 
--- how much so many digits more may make of a number below this
+-- how much this many digits more may make of a number below this
 abbrev room : ℕ → ℕ → ℕ
 room zero most = most
 room (suc k) most = room k (16 * most)
@@ -47,7 +47,7 @@ digit_same c d false true l m ic id e =
     let least : 48 ≤ d = grind (arith, nat_tests, m, id) in
     absurd (omega (arith, low, high, least, e))
 
--- digits read behind a number are at least that number
+-- digits read after a number are at least that number
 pub at_least : (xs : List ℕ) (a : ℕ) → a ≤ fold step a xs
 at_least [] a = omega arith
 at_least (x ∷ xs) a = let later = at_least xs (step a x) in omega (arith, later)

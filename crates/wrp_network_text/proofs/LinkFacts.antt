@@ -243,7 +243,7 @@ link_waves file t sound =
       up_wave (first_in t) (get_member (codes "up_nm") t) (row_parts co.Range file t up sound.range.1.1.1.1.1.1.1.1.0).0,
     )
 
--- one wavelength is that of any exactly where the other is
+-- one wavelength means any if and only if the other does
 is_zero : (z : ℤ) → unsigned_abs z ≡ 0 → int_eq z (pos 0) ≡ true
 is_zero z e = (Decides-int_eq z (pos 0)).1 (omega (arith, ints, e))
 

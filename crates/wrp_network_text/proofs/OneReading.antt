@@ -226,7 +226,7 @@ no_fault a b same none kept n s (inr is) =
 
 -- Answers
 
--- a table that is taken has no fault where it has a network
+-- a table that is taken has no fault if it has a network
 never_both : (doc : Members) (net : Network) (n : ℕ) (s : List ℕ) → IsAnswerOf doc (Ok net) → IsTableFault doc n s ⊎ IsNetworkFault doc n s → ⊥
 never_both doc net n s ok (inl is) = not_taken doc n s is ok.0
 never_both doc net n s ok (inr is) =

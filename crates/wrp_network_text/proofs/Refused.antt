@@ -37,7 +37,7 @@ clash_answer doc cfg clash (Fault number text) taken of none broken is =
     inr (cfg, taken, of, inr (clash, none, broken, is.0, is.1))
 clash_answer doc cfg clash (Memory e) taken of none broken is = tt
 
--- nothing is broken where the answer is that all is kept
+-- nothing is broken if the answer is that all is kept
 pub none_broken : (o : Option Inequality) → Ok tt ≡ answer_of o → o ≡ None
 none_broken None e = refl
 none_broken (Some i) e = cc e

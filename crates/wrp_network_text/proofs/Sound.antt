@@ -45,7 +45,7 @@ if_small : (most : ℕ) (b : Bool) (o : Option ℤ) → in_range (pos 0) (pos mo
 if_small most true o e = let range = in_range_between 0 most o e in omega (arith, ints, range.0, range.1)
 if_small most false o e = omega arith
 
--- a number from 0 on is at most the greatest of its row, whatever stands there
+-- a number from 0 on is at most the greatest of its row, whatever is there
 number_small : (name : List ℕ) (most : ℕ) (found : Option Data)
     → unsigned_abs (unwrap_or (number_in (number_key name (pos 0) (pos most)) found) (pos 0)) ≤ most
 number_small name most None = omega arith
@@ -202,7 +202,7 @@ table_sound kappa err ps small size e =
       near = each.1;
     }
 
--- the error of a table is at most 10^9, whatever stands there
+-- the error of a table is at most 10^9, whatever is there
 err_small : (found : Option Data) → unsigned_abs (unwrap_or (number_in table_err_key found) (pos 0)) ≤ 1_000_000_000
 err_small None = omega arith
 err_small (Some d) = if_small 1_000_000_000 (in_range (pos 0) (pos 1_000_000_000) (as_integer d)) (as_integer d) refl
@@ -214,7 +214,7 @@ integer_in_range (Some z) least most e = (z, refl)
 fits_gives : (b : Bool) → b ≡ true → (o : Option ℤ) (z : ℤ) → o ≡ Some z → cond b o None ≡ Some z
 fits_gives b holds o z is = rw holds is
 
--- the law that the points keep to, where its numbers fit
+-- the law that the points keep to, if its numbers fit
 kappa_there : (found : Option Data) → has_fault co.Missing kappa_key found ≡ false → has_fault co.Range kappa_key found ≡ false
     → (z : ℤ) × (number_in kappa_key found ≡ Some z)
 kappa_there None missing range = cc missing

@@ -112,7 +112,7 @@ count_once : {X : Type 0} (p : X → Bool) (xs : List X) → count_by p xs ≤ 1
     → (k l : ℕ) (a b : X) → slice_get xs k ≡ Some a → slice_get xs l ≡ Some b → p a ≡ true → p b ≡ true → k ≡ l
 count_once p xs few = filter_once p xs (let same = length-filter p xs in omega (arith, same, few))
 
--- the greater of two roots stands apart
+-- the greater of two roots is apart
 second_root : (cfg : NetCfg) (m n : ℕ) → m < n → link_above cfg m ≡ None → link_above cfg n ≡ None → stands_apart cfg n ≡ true
 second_root cfg m n h first second =
     let root : is_root cfg m ≡ true = rw first refl in

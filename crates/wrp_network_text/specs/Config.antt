@@ -1,4 +1,4 @@
--- The network that a text describes, which is asked of texts whose tables are taken (this project's profile).
+-- The network that a text describes, for texts whose tables are taken (this project's profile).
 use Rattle.std.specs.Prelude.{◌≡◌, ◌+◌, ◌-◌, ◌*◌, ℕ, pos, List, Bool, true, Option, Some, None, codes, map, fold, nat_le, option_and_then, unwrap_or, if◌then◌else◌}
 use Rattle.toml.specs.Data.{Data, Members, as_bool, get_member}
 use Rattle.wrp_network.specs.declared.configuration.NetCfg.{NetCfg}
@@ -26,7 +26,7 @@ hex_value c = if nat_le c 57 then c - 48 else c - 87
 abbrev pub hex_number : List ℕ → ℕ
 hex_number digits = fold (λ n c. 16 * n + hex_value c) 0 digits
 
--- the identity that a text spells, 0 where it is none
+-- the identity that a text spells, 0 if it spells none
 abbrev pub identity_of : Option (List ℕ) → ℕ
 identity_of None = 0
 identity_of (Some text) = if is_identity text then hex_number text else 0
@@ -45,19 +45,19 @@ node_of clock node = record {
 
 -- Links
 
--- the name at a key; none where no name stands there
+-- the name at a key; none if there is no name
 abbrev pub name_of : List ℕ → Members → List ℕ
 name_of key table = name_or_none (text_at key table)
 
--- the node and the port at a key; 0 and 0 where no end stands there
+-- the node and the port at a key; 0 and 0 if there is no end
 abbrev pub end_at : List Data → List ℕ → Members → ℕ × ℕ
 end_at nodes key link = unwrap_or (option_and_then (end_in nodes) (text_at key link)) (0, 0)
 
--- `wr`, which is true where it is missing
+-- `wr`, which is true if it is missing
 abbrev pub wr_in : Members → Bool
 wr_in link = unwrap_or (option_and_then as_bool (get_member (codes "wr") link)) true
 
--- the fibre of a name; without asymmetry and error where it is not listed
+-- the fibre of a name; without asymmetry and error if it is not listed
 abbrev pub fibre_of : Database → List ℕ → Fibre
 fibre_of db name = unwrap_or (fibre_at db name) (record { kappa = pos 0; err = 0 })
 
@@ -92,7 +92,7 @@ abbrev pub links_of : Members → List LinkCfg
 links_of doc =
     each_table (link_of (tables_at (codes "node") doc) (database_of doc)) (tables_at (codes "link") doc)
 
--- the network is that of the text, whatever stands in the unused room of its names
+-- the network is the one of the text, whatever is in the unused room of its names
 pub record IsNetworkOf (doc : Members) (cfg : NetCfg) : Type 0 where
   pub epoch : cfg.epoch ≡ number_at (key_of se.Epoch) (network_in doc)
   pub domain : cfg.domain ≡ number_at (key_of se.Domain) (network_in doc)

@@ -31,12 +31,12 @@ port_of (c ∷ d ∷ e ∷ rest) = None
 abbrev pub is_colon : ℕ → Bool
 is_colon c = c == 58
 
--- both, where both are there
+-- both, if both are there
 abbrev pub both : Option ℕ → Option ℕ → Option (ℕ × ℕ)
 both (Some node) (Some port) = Some (node, port)
 both _ _ = None
 
--- the place of the node and the port, from what stands before the first colon and behind it
+-- the place of the node and the port, from what is before the first colon and after it
 abbrev pub end_in : List Data → List ℕ → Option (ℕ × ℕ)
 end_in nodes text =
     if nat_lt (position_or_len is_colon text) (length text)

@@ -32,7 +32,7 @@ top_keys =
 
 -- the network
 
--- a number of `network`, from least to greatest, and what it is where it is missing
+-- a number of `network`, from least to greatest, and its value if it is missing
 abbrev pub number : List ℕ → ℕ → ℕ → ℕ → Key
 number name least greatest default = default_key name (pos least) (pos greatest) (pos default)
 
@@ -88,12 +88,12 @@ network_keys =
     ∷ key_of se.Kp ∷ key_of se.Ki ∷ key_of se.Bias ∷ key_of se.Threshold ∷ key_of se.DelockSamples
     ∷ period_key ∷ []
 
--- the members of a value, where it is a table
+-- the members of a value, if it is a table
 abbrev pub members_of : Option Data → Members
 members_of None = no_members
 members_of (Some d) = unwrap_or (as_table d) no_members
 
--- the table `network`; without members where it is missing
+-- the table `network`; without members if it is missing
 abbrev pub network_in : Members → Members
 network_in doc = members_of (get_member (codes "network") doc)
 

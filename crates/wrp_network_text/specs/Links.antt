@@ -1,5 +1,5 @@
--- The rows of a link: beside its sort, a value may have to name a node, or a module or fibre that is listed (this project's
--- profile).
+-- The rows of a link: in addition to being of its sort, a value may have to name a node, or a module or fibre that is
+-- listed (this project's profile).
 use Rattle.std.specs.Prelude.{◌||◌, not, ℕ, ℤ, pos, List, [], ◌∷◌, Bool, true, false, Option, Some, None, codes, option_map, option_and_then, map}
 use Rattle.std.specs.Option.{is_some, option_or}
 use Rattle.std.specs.Ordering.{int_eq}
@@ -27,11 +27,11 @@ pub record LinkKey : Type 0 where
 abbrev pub down_key : Key
 down_key = defaulted_key (codes "down_nm") so.Wavelength (pos 0)
 
--- the wavelength of the way up, where that of the way down is this
+-- the wavelength of the way up, if the wavelength of the way down is this
 abbrev pub up_key : Option ℤ → Key
 up_key first = defaulted_key (codes "up_nm") (so.SecondWavelength first) (pos 0)
 
--- the number that stands for the way down; 0 where the key is missing
+-- the number for the way down; 0 if the key is missing
 abbrev pub first_of : Option Data → Option ℤ
 first_of None = Some (pos 0)
 first_of (Some d) = as_integer d
@@ -48,7 +48,7 @@ down_in link = natural_at down_key link
 abbrev pub up_in : Members → ℕ
 up_in link = natural_at (up_key (first_in link)) link
 
--- whether the link may leave plain PTP, which is so where the key is missing
+-- whether the link may leave plain PTP, which is so if the key is missing
 abbrev pub wr_key : Key
 wr_key = optional_key (codes "wr") so.Flag
 
@@ -108,12 +108,12 @@ names_one file link na.UpperModule d = names_module file.db (down_in link) (up_i
 names_one file link na.LowerModule d = names_module file.db (up_in link) (down_in link) d
 names_one file link na.Up d = true
 
--- the wavelength is that of any, or no number
+-- the wavelength means any, or is no number
 abbrev pub is_any : Option ℤ → Bool
 is_any None = true
 is_any (Some z) = int_eq z (pos 0)
 
--- the key may be missing: that of the way up where the way down has any wavelength
+-- the key may be missing: the key of the way up if the way down has any wavelength
 abbrev pub may_be_missing : Members → Names → Bool
 may_be_missing link na.Nothing = true
 may_be_missing link na.Node = true
@@ -141,7 +141,7 @@ abbrev pub place_of_link_keys : Code → At → Context → Members → Option P
 place_of_link_keys code at file link =
     key_place at (option_map (λ k. k.key.name) (find (has_link_fault code file link) (link_keys link)))
 
--- the link, where it has a key that has no row, or its first row with a fault of this code
+-- the link, if it has a key that has no row, or its first row with a fault of this code
 abbrev pub place_in_link_table : Code → At → Context → Members → Option PlaceAt
 place_in_link_table code at file link =
     option_or (place_of_others code at (map (λ k. k.key) (link_keys link)) link)

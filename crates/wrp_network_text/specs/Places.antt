@@ -1,5 +1,5 @@
--- Where a network file is refused for what one of its tables says: the first place of each code, in the order of the places
--- (this project's profile).
+-- Where a network file is refused for what one of its tables says: the first place of each code, in the order of the
+-- places (this project's profile).
 use Rattle.std.specs.Prelude.{◌+◌, ◌||◌, ℕ, List, [], ◌∷◌, Bool, Option, Some, None, codes, take, option_and_then, if◌then◌else◌}
 use Rattle.std.specs.Option.{option_or}
 use Rattle.std.specs.List.{list_any}
@@ -26,7 +26,7 @@ abbrev pub has_text_of : List ℕ → Members → Data → Bool
 has_text_of key table d =
     are_same_texts (option_and_then (text_at key) (as_table d)) (text_at key table)
 
--- a node's identity, where an earlier node has the same
+-- a node's identity, if an earlier node has the same
 abbrev pub place_of_identity : Code → At → List Data → Members → Option PlaceAt
 place_of_identity co.UnknownKey at earlier node = None
 place_of_identity co.Missing at earlier node = None
@@ -55,17 +55,17 @@ has_end text d =
     are_same_texts (option_and_then (text_at (codes "upper")) (as_table d)) text
     || are_same_texts (option_and_then (text_at (codes "lower")) (as_table d)) text
 
--- the port of the upper end is one of an earlier link
+-- the port of the upper end is a port of an earlier link
 abbrev pub repeats_upper : List Data → Members → Bool
 repeats_upper earlier link = list_any (has_end (text_at (codes "upper") link)) earlier
 
--- the port of the lower end is that of the upper end, or one of an earlier link
+-- the port of the lower end is the port of the upper end, or a port of an earlier link
 abbrev pub repeats_lower : List Data → Members → Bool
 repeats_lower earlier link =
     are_same_texts (text_at (codes "upper") link) (text_at (codes "lower") link)
     || list_any (has_end (text_at (codes "lower") link)) earlier
 
--- an end of a link, where its port is one of an earlier end
+-- an end of a link, if its port is the port of an earlier end
 abbrev pub place_of_port : Code → At → List Data → Members → Option PlaceAt
 place_of_port co.UnknownKey at earlier link = None
 place_of_port co.Missing at earlier link = None
@@ -74,7 +74,7 @@ place_of_port co.Twice at earlier link =
     if repeats_upper earlier link then Some (record { at = at; key = Some (codes "upper") })
     else (if repeats_lower earlier link then Some (record { at = at; key = Some (codes "lower") }) else None)
 
--- in a link with l links before it: a name is one of a node or of an earlier link
+-- in a link with l links before it: a name is repeated if a node or an earlier link has it
 abbrev pub place_in_link : Code → Context → List Data → ℕ → Members → Option PlaceAt
 place_in_link code file links l link =
     option_or (place_in_link_table code (tables.Link (l + 1)) file link)
@@ -89,7 +89,7 @@ place_in_links code file links =
 
 -- The text
 
--- the key `node` where there is no node
+-- the key `node` if there is no node
 abbrev pub no_node : Code → List Data → Option PlaceAt
 no_node co.UnknownKey nodes = None
 no_node co.Missing [] = Some (record { at = tables.Top; key = Some (codes "node") })
@@ -121,7 +121,7 @@ place_at_links code doc =
     option_or (place_of_keys code tables.Top (link_key ∷ []) doc)
     (place_in_links code (context_of doc) (tables_at (codes "link") doc))
 
--- the first place of a code in the text: behind the links stand the modules and the fibres
+-- the first place of a code in the text: the modules and the fibres come after the links
 abbrev pub first_place : Members → Code → Option PlaceAt
 first_place doc code =
     option_or (place_in_head code doc)

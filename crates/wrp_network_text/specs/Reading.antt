@@ -34,29 +34,29 @@ abbrev pub clash_text : Clash → List ℕ
 clash_text clash =
     codes "c" ++ decimal clash.number ++ codes ":" ++ signed_decimal clash.left ++ codes ":" ++ signed_decimal clash.right
 
--- code 10: the first inequality that is broken, where the links make a tree
+-- code 10: the first inequality that is broken, if the links make a tree
 abbrev pub IsClash : NetCfg → ℕ → List ℕ → Type 0
 IsClash cfg number text = (clash : Clash)
     × tree.HasNoFault cfg × (answer_of (find is_broken (inequalities cfg)) ≡ Err clash)
     × (number ≡ 10) × (text ≡ clash_text clash)
 
--- the fault of a node, or want of memory for its place
+-- the fault of a node, or out of memory for its place
 abbrev pub IsNodeFault : TreeFault → ℕ → ConfFault → Type 0
 IsNodeFault fault n (Fault number place) =
     (number ≡ tree.number_of fault) × (place.bytes ≡ codes "node." ++ decimal (n + 1))
 IsNodeFault fault n (Memory e) = Unit {0}
 
--- the fault of an inequality, or want of memory for its place
+-- the fault of an inequality, or out of memory for its place
 abbrev pub IsClashFault : Clash → ConfFault → Type 0
 IsClashFault clash (Fault number place) = (number ≡ 10) × (place.bytes ≡ clash_text clash)
 IsClashFault clash (Memory e) = Unit {0}
 
--- codes 7 to 10 speak of the network of a text whose tables are taken
+-- codes 7 to 10 are about the network of a text whose tables are taken
 abbrev pub IsNetworkFault : Members → ℕ → List ℕ → Type 0
 IsNetworkFault doc number text = (cfg : NetCfg)
     × IsTaken doc × IsNetworkOf doc cfg × (IsTreeFault cfg number text ⊎ IsClash cfg number text)
 
--- the answer for a table; want of memory may come for any
+-- the answer for a table; for any table it may be out of memory
 abbrev pub IsAnswerOf : Members → Result Network ConfFault → Type 0
 IsAnswerOf doc (Ok net) =
     IsTaken doc × IsNetworkOf doc net.cfg × (net.db ≡ database_of doc) × tree.HasNoFault net.cfg
@@ -65,7 +65,8 @@ IsAnswerOf doc (Err (Fault number place)) =
     IsTableFault doc number place.bytes ⊎ IsNetworkFault doc number place.bytes
 IsAnswerOf doc (Err (Memory e)) = Unit {0}
 
--- the answer for the octets of a file: code 1 at the place `-` where they are no text of TOML, else that for its table
+-- the answer for the octets of a file: code 1 at the place `-` if they are no text of TOML, else the answer for its
+-- table
 abbrev pub IsReadingOf : List ℕ → Result Network ConfFault → Type 0
 IsReadingOf octets (Ok net) = (doc : Members) × IsTextOf doc octets × IsAnswerOf doc (Ok net)
 IsReadingOf octets (Err (Fault number place)) =

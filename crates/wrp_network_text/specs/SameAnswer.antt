@@ -7,7 +7,7 @@ use Rattle.wrp_config.specs.Same.{IsSameNetwork}
 use Rattle.wrp_config.specs.declared.network.Network.{Network}
 use Rattle.wrp_network_text.specs.Reading.{IsReadingOf}
 
--- the same answer: a network and a fault never are; want of memory may come in place of any
+-- the same answer: a network and a fault never are; out of memory may come in place of any
 abbrev pub IsSameAnswer : Result Network ConfFault → Result Network ConfFault → Type 0
 IsSameAnswer (Ok a) (Ok b) = IsSameNetwork a b
 IsSameAnswer (Ok a) (Err (Fault number place)) = ⊥
@@ -29,13 +29,13 @@ OneReading =
     (octets : List ℕ) (one other : Result Network ConfFault) →
     IsReadingOf octets one → IsReadingOf octets other → IsSameAnswer one other
 
--- the answer is not want of memory
+-- the answer is not out of memory
 abbrev pub IsSettled : Result Network ConfFault → Type 0
 IsSettled (Ok net) = Unit {0}
 IsSettled (Err (Fault number place)) = Unit {0}
 IsSettled (Err (Memory e)) = ⊥
 
--- each text has an answer that is not want of memory
+-- each text has an answer that is not out of memory
 abbrev pub EachIsRead : Type 0
 EachIsRead =
     (octets : List ℕ) → (due : Result Network ConfFault) × IsSettled due × IsReadingOf octets due

@@ -1,5 +1,5 @@
--- Where the links of a network make no tree: a node that stands apart, a node below two links, a node too deep (this
--- project's profile). A node is told by its place from 0.
+-- Where the links of a network make no tree: a node that is apart from the tree, a node below two links, a node too
+-- deep (this project's profile). A node is identified by its place from 0.
 use Rattle.std.specs.Prelude.{◌≡◌, ◌<◌, ◌&&◌, ◌||◌, ◌==◌, not, ℕ, zero, suc, ◌+◌, Bool, true, false, Option, Some, None, nat_lt, option_map, count_by}
 use Rattle.std.specs.Option.{is_some}
 use Rattle.wrp_network.specs.declared.configuration.NetCfg.{NetCfg}
@@ -8,7 +8,7 @@ use Rattle.wrp_network.specs.Network.{link_above, node_count}
 use Rattle.wrp_network_text.specs.declared.tree.TreeFault.{TreeFault}
 use Rattle.wrp_network_text.specs.declared.tree.TreeFault.TheVariants.{NotATree, TwoSlaves, TooDeep}
 
--- no link stands above the node
+-- no link is above the node
 abbrev pub is_root : NetCfg → ℕ → Bool
 is_root cfg n = not (is_some (link_above cfg n))
 
@@ -17,18 +17,18 @@ abbrev pub some_below : (ℕ → Bool) → ℕ → Bool
 some_below test zero = false
 some_below test (suc n) = some_below test n || test n
 
--- no link where none stands above the node
+-- no link if none is above the node
 abbrev pub ended : Option LinkCfg → Option ℕ
 ended None = Some 0
 ended (Some link) = None
 
--- no link where none stands above the node, else one more than from the node above
+-- no link if none is above the node, else one more than from the node above
 abbrev pub one_above : (ℕ → Option ℕ) → Option LinkCfg → Option ℕ
 one_above walk None = Some 0
 one_above walk (Some link) = option_map (λ depth. depth + 1) (walk link.upper)
 
--- how many links the walk from a node up its parents takes to a node without a link above it; none where it takes more
--- than so many
+-- how many links the walk from a node up its parents takes to a node without a link above it; none if it takes more
+-- than this many
 unfoldable pub depth_within : ℕ → NetCfg → ℕ → Option ℕ
 depth_within zero cfg n = ended (link_above cfg n)
 depth_within (suc most) cfg n = one_above (depth_within most cfg) (link_above cfg n)
@@ -51,7 +51,7 @@ abbrev pub is_over_8 : Option ℕ → Bool
 is_over_8 None = false
 is_over_8 (Some depth) = nat_lt 8 depth
 
--- the walk from the node takes more than 8 links to a node without a link above it; false where it does not end
+-- the walk from the node takes more than 8 links to a node without a link above it; false if it does not end
 abbrev pub is_too_deep : NetCfg → ℕ → Bool
 is_too_deep cfg n = is_over_8 (depth_of cfg n)
 
@@ -75,7 +75,7 @@ IsFirst cfg fault None = HasNone cfg fault
 IsFirst cfg fault (Some n) =
     (n < node_count cfg) × (has_fault cfg fault n ≡ true) × NoneBefore cfg fault n
 
--- no node has a fault that is told before this one
+-- no node has a fault that is reported before this one
 abbrev pub HasNoneBefore : NetCfg → TreeFault → Type 0
 HasNoneBefore cfg NotATree = Unit {0}
 HasNoneBefore cfg TwoSlaves = HasNone cfg NotATree

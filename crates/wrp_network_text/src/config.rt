@@ -48,7 +48,7 @@ fn hex_number(digits: &[u8]) -> u64
     number
 }
 
-// The identity that a text spells; 0 where it is none.
+// The identity that a text spells; 0 if it spells none.
 fn identity_of(text: Option<&str>) -> u64
     ensures { result ≡ identity_of (option_copied text.entry) }
 {

@@ -6,7 +6,7 @@ ghost use Rattle.wrp_network_text.specs.Greatest.{raised, over_entries, over_mod
 use wrp_base::Module;
 use wrp_caldb::{Entry, ListedModule, Lists};
 
-/// The greatest `err`, `tx` and `rx` of some entries, in tau; 0 where there is none.
+/// The greatest `err`, `tx` and `rx` of some entries, in tau; 0 if there is none.
 #[derive(Clone, Copy, Default)]
 pub struct Greatest {
     pub err: u64,
@@ -48,7 +48,7 @@ impl Greatest {
         greatest
     }
 
-    /// Those of all listed modules.
+    /// The greatest numbers of all listed modules.
     pub fn of_lists(lists: &Lists) -> Greatest
         ensures err { result.err ≡ greatest (map (λ delays. delays.err) (all_delays lists.now)) }
         ensures tx { result.tx ≡ greatest (map (λ delays. delays.tx) (all_delays lists.now)) }

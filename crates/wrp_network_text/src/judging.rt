@@ -1,9 +1,9 @@
 //! Where a network file is refused for what one of its tables says: the first place of each code, in
 //! the order of the places.
 //!
-//! Texts that are there twice are searched for among the tables before each one. The lists are short
-//! then: `Twice` is looked for where nothing is out of range, and so among at most 64 nodes and 63
-//! links. The modules and the fibres, of which there may be thousands, are judged by `wrp_calibration_text`.
+//! Texts that are there twice are searched for among the tables before each one. The lists are short then:
+//! `Twice` is looked for only if nothing is out of range, and so among at most 64 nodes and 63 links. The
+//! modules and the fibres, of which there may be thousands, are judged by `wrp_calibration_text`.
 ghost use Rattle.std.specs.Prelude.{◌≡◌, ◌↔◌, ◌≤◌, ◌<◌, Some, None, IfOk, map, length, take, option_copied};
 ghost use Rattle.std.specs.List.{list_any};
 ghost use Rattle.toml.specs.View.{view, table_view};
@@ -51,7 +51,7 @@ fn has_text_before(key: &str, values: &[Value], count: usize, table: &Table) -> 
     any_has_text_of(key, table, &values[..count])
 }
 
-// The key `identity`, where the code is `Twice` and an earlier node has the same.
+// The key `identity`, if the code is `Twice` and an earlier node has the same.
 fn place_of_identity(
     code: Code,
     at: At,
@@ -139,7 +139,7 @@ fn has_end_before(text: Option<&str>, links: &[Value], count: usize) -> bool
     any_has_end(text, &links[..count])
 }
 
-// Whether the port of the upper end is one of an earlier link.
+// Whether the port of the upper end is a port of an earlier link.
 fn repeats_upper(links: &[Value], count: usize, link: &Table) -> bool
     requires { count ≤ length links.now }
     ensures { result ≡ repeats_upper (take count (map view links.now)) (table_view link.now) }
@@ -147,7 +147,7 @@ fn repeats_upper(links: &[Value], count: usize, link: &Table) -> bool
     has_end_before(text_at("upper", link), links, count)
 }
 
-// Whether the port of the lower end is that of the upper end, or one of an earlier link.
+// Whether the port of the lower end is the port of the upper end, or a port of an earlier link.
 fn repeats_lower(links: &[Value], count: usize, link: &Table) -> bool
     requires { count ≤ length links.now }
     ensures { result ≡ repeats_lower (take count (map view links.now)) (table_view link.now) }
@@ -156,7 +156,7 @@ fn repeats_lower(links: &[Value], count: usize, link: &Table) -> bool
         || has_end_before(text_at("lower", link), links, count)
 }
 
-// The key of an end of a link, where the code is `Twice` and its port is one of an earlier end.
+// The key of an end of a link, if the code is `Twice` and its port is the port of an earlier end.
 fn place_of_port(code: Code, at: At, links: &[Value], count: usize, link: &Table) -> Option<Place>
     requires { count ≤ length links.now }
     ensures { result
@@ -176,7 +176,7 @@ fn place_of_port(code: Code, at: At, links: &[Value], count: usize, link: &Table
     }
 }
 
-// The key `name` of a link, where the code is `Twice` and a node has the same name.
+// The key `name` of a link, if the code is `Twice` and a node has the same name.
 fn place_of_node_name(code: Code, at: At, nodes: &[Value], link: &Table) -> Option<Place>
     ensures { result ≡ place_of_name code at (map view nodes.now) (table_view link.now) }
 {
@@ -224,7 +224,7 @@ fn place_in_links(code: Code, nodes: &[Value], lists: &Lists, links: &[Value]) -
     None
 }
 
-// The key `node`, where the code is `Missing` and there is no node.
+// The key `node`, if the code is `Missing` and there is no node.
 fn no_node(code: Code, nodes: &[Value]) -> Option<Place>
     ensures { result ≡ no_node code (map view nodes.now) }
 {
@@ -327,9 +327,9 @@ fn least_of(
     }
 }
 
-/// Why a table of a network file is refused: the least code that has a place, at its first place.
-/// `network` is the table `network` of the text, and `lists` are its modules and fibres. Memory is
-/// taken where no code below `Twice` has a place.
+/// Why a table of a network file is refused: the least code that has a place, at its first place. `network`
+/// is the table `network` of the text, and `lists` are its modules and fibres. Memory is taken if no code
+/// below `Twice` has a place.
 pub fn refusal(
     alloc: Global,
     doc: &Table,

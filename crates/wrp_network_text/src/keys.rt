@@ -66,7 +66,7 @@ pub fn head_rows() -> [Row; 2]
     [version_row(), network_row()]
 }
 
-/// The table `network`, or one without keys where it is missing.
+/// The table `network`, or one without keys if it is missing.
 pub fn network_in<'a>(doc: &'a Table, empty: &'a Table) -> &'a Table
     requires { table_view empty.now ≡ no_members }
     ensures { table_view result.now ≡ network_in (table_view doc.now) }

@@ -12,7 +12,7 @@ use toml::{Table, Value};
 use wrp_caldb::{At, Code, Lists, Sort};
 use wrp_calibration_text::{Place, Row, is_at_fault, natural, place_of_others, value_at};
 
-/// What a value has to name, beside its sort.
+/// What a value has to name, in addition to its sort.
 #[derive(Clone, Copy)]
 pub enum Names {
     /// Nothing.
@@ -25,7 +25,7 @@ pub enum Names {
     UpperModule,
     /// A module that is listed for the wavelengths of the lower end.
     LowerModule,
-    /// Nothing; its default 0 means any wavelength up, which fits any wavelength down alone.
+    /// Nothing; its default 0 means any wavelength up, which fits only any wavelength down.
     Up,
 }
 
@@ -61,7 +61,7 @@ fn down_row() -> Row
     Row::defaulted("down_nm", Sort::Wavelength, 0)
 }
 
-// `up_nm`: the wavelength of the way up, where that of the way down is this.
+// `up_nm`: the wavelength of the way up, if the wavelength of the way down is this.
 fn up_row(first: Option<i64>) -> Row
     ensures { result ≡ up_key first }
 {
@@ -85,14 +85,14 @@ fn first_in(link: &Table) -> Option<i64>
     }
 }
 
-/// The wavelength of the way down, in nm; 0 where there is none.
+/// The wavelength of the way down, in nm; 0 if there is none.
 pub fn down_in(link: &Table) -> u16
     ensures { result ≡ down_in (table_view link.now) }
 {
     natural(link, &down_row()) as u16
 }
 
-/// The wavelength of the way up, in nm; 0 where there is none.
+/// The wavelength of the way up, in nm; 0 if there is none.
 pub fn up_in(link: &Table) -> u16
     ensures { result ≡ up_in (table_view link.now) }
 {
@@ -225,7 +225,7 @@ fn may_be_missing(link: &Table, names: Names) -> bool
     }
 }
 
-// Whether the value of a row names nothing, or a default does not fit, where the code is `Range`.
+// Whether the value of a row names nothing, or a default does not fit, if the code is `Range`.
 fn is_stray(code: Code, nodes: &[Value], lists: &Lists, link: &Table, row: &LinkRow) -> bool
     ensures { result ≡ is_stray code (may_be_missing (table_view link.now) row.now.names)
         (names_one (record { nodes = map view nodes.now; db = lists.now })
@@ -284,7 +284,7 @@ fn place_of_link_keys(
     }
 }
 
-/// The first place of a code in the keys of a link: the link where it has a key without a row, then
+/// The first place of a code in the keys of a link: the link if it has a key without a row, then
 /// the keys in the order of the rows.
 pub fn place_in_link_table(
     code: Code,

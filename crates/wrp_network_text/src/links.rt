@@ -15,7 +15,7 @@ use wrp_caldb::{ListedModule, Lists};
 use wrp_calibration_text::{name_at, value_at};
 use wrp_network::{LinkCfg, Name};
 
-// The name at a key; an empty name where there is none.
+// The name at a key; an empty name if there is none.
 fn name_of(key: &str, table: &Table) -> Name
     ensures { result.bytes ≡ name_of key.now (table_view table.now) }
 {
@@ -25,7 +25,7 @@ fn name_of(key: &str, table: &Table) -> Name
     }
 }
 
-// The node and the port at a key; 0 and 0 where there is none.
+// The node and the port at a key; 0 and 0 if there is none.
 fn end_at(nodes: &[Value], key: &str, link: &Table) -> (u8, u16)
     requires { length nodes.now ≤ 64 }
     ensures { result ≡ end_at (map view nodes.now) key.now (table_view link.now) }
@@ -39,7 +39,7 @@ fn end_at(nodes: &[Value], key: &str, link: &Table) -> (u8, u16)
     }
 }
 
-// `wr`, which is true where it is missing.
+// `wr`, which is true if it is missing.
 fn wr_in(link: &Table) -> bool
     ensures { result ≡ wr_in (table_view link.now) }
 {
@@ -49,7 +49,7 @@ fn wr_in(link: &Table) -> bool
     }
 }
 
-// The fibre of a name; without asymmetry and error where it is not listed.
+// The fibre of a name; without asymmetry and error if it is not listed.
 fn fibre_of(lists: &Lists, name: &str) -> Fibre
     ensures { result ≡ fibre_of lists.now name.now }
 {

@@ -123,11 +123,11 @@ fn answer_for(alloc: Global, text: &str) -> Result<Network, ConfFault>
 pub trait ReadNetwork {
     /// Reads a network file: TOML with the keys `version`, `network`, `node`, `link`, `module` and
     /// `fibre`. A fault is the least code that the file has, at the first place that has it: 1 Syntax
-    /// at `-` where the octets are no UTF-8 or no TOML, 2 UnknownKey, 3 Missing, 4 Range, 5 Twice, 7
+    /// at `-` if the octets are no UTF-8 or no TOML, 2 UnknownKey, 3 Missing, 4 Range, 5 Twice, 7
     /// NotATree, 8 TwoSlaves, 9 TooDeep, and 10 Clash, whose place is the broken inequality with both
-    /// its sides (this project's profile). Want of memory is an answer of its own, and may come in
-    /// place of any other; a text has no second answer but that. Each network that is read is accepted.
-    /// Nothing is left of a file that is not read.
+    /// its sides (this project's profile). Out of memory is an answer of its own, and may come in place
+    /// of any other; apart from this, a text has no second answer. Each network that is read is
+    /// accepted. Nothing is left of a file that is not read.
     fn read(alloc: Global, bytes: &[u8]) -> Result<Network, ConfFault>;
 }
 

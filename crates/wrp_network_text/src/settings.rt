@@ -41,7 +41,7 @@ pub enum NetworkKey {
 }
 
 impl NetworkKey {
-    /// Its row: the key, the least and the greatest number, and the number where it is missing.
+    /// Its row: the key, the least and the greatest number, and the number used if it is missing.
     pub fn row(self) -> Row
         ensures { result ≡ key_of self }
     {

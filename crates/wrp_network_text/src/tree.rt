@@ -43,7 +43,7 @@ fn has_root_below(cfg: &NetCfg, n: u8) -> bool
     found
 }
 
-// How many links the walk from a node up its parents takes, at most so many.
+// How many links the walk from a node up its parents takes, at most this many.
 fn depth_within(most: u8, cfg: &NetCfg, n: u8) -> Option<u8>
     requires { most ≤ 64 }
     ensures value { result ≡ depth_within most cfg.now n }
@@ -71,7 +71,7 @@ fn one_more(depth: Option<u8>) -> Option<u8>
     }
 }
 
-// How many links the walk from a node up its parents takes; `None` where it does not end.
+// How many links the walk from a node up its parents takes; `None` if it does not end.
 fn depth_of(cfg: &NetCfg, n: u8) -> Option<u8>
     ensures { result ≡ depth_of cfg.now n }
 {

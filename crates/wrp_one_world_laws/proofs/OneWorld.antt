@@ -1,5 +1,5 @@
--- The same events make the same world, but for answers of the law that nobody asked for; its nodes make the same steps,
--- and the same premise is the first that an event breaks.
+-- The same events make the same world, except for answers of the law that nobody asked for; its nodes make the same
+-- steps, and the same premise is the first that an event breaks.
 use Rattle.std.proofs.Common.{◌≡◌, ◌∙◌, refl, ap, ap₂, sym, subst, ℕ, ℤ, Bool, true, false, ◌==◌, if◌then◌else◌, List, [], ◌∷◌, ◌++◌, flat_map, map, is_some, Result, arith}
 use Rattle.wrp_base.specs.declared.link.ServoState.TheVariants.{Uninit}
 use Rattle.wrp_base.specs.declared.message.PtpMsg.{PtpMsg}
@@ -59,7 +59,7 @@ given_alike s v w calls others inputs taken says (Join k ms sm) = refl
 
 -- A step of a node
 
--- the lists after it: of this node these, and of the others as before
+-- the lists after it: of this node these, and of the other nodes as before
 abbrev at_node : {A : Type 0} → ℕ → A → (ℕ → A) → ℕ → A
 at_node m new old n = if n == m then new else old n
 
@@ -147,7 +147,7 @@ given_all law last s y z v w (g ∷ gs) h a b =
     let rest : GivesAll s y z (gives s y v g) (gives s z w g) gs = given_all law last s y z (gives s y v g) (gives s z w g) gs one.worlds a b in
     record { worlds = rest.worlds; steps = ap₂ (λ step steps. step ∷ steps) one.steps rest.steps }
 
--- What the octets of a Noise say is one, and counts for nothing elsewhere
+-- What the octets of a Noise say is one, and has no effect in other events
 
 said_same : (s : Setting) (v w : WorldAt) (e : Event) (a b : Result PtpMsg FrameFault) → IsSaid e a → IsSaid e b → given_by s v w a e ≡ given_by s v w b e
 said_same s v w (Pass dt drifts fibres) a b p q = refl
@@ -203,7 +203,7 @@ checks_alike s v calls inputs says (Up n off swaps) servo = refl
 checks_alike s v calls inputs says (Cut k) servo = refl
 checks_alike s v calls inputs says (Join k ms sm) servo = refl
 
--- in alike worlds an event is tried alike, whatever is noted beside the octets of a Noise that they say
+-- in alike worlds an event is tried alike, whatever is noted with the octets of a Noise that they say
 pub checks_one : (s : Setting) (v w : WorldAt) (e : Event) (a b : Result PtpMsg FrameFault) → Alike s v w → IsSaid e a → IsSaid e b → checks_of s v a e ≡ checks_of s w b e
 checks_one s v w e a b h p q =
     sym (checks_alike s v h.calls h.inputs a e h.servo) ∙ ap (λ (k : WorldAt). checks_of s k a e) (sym h.is) ∙ tried_same s w e a b p q

@@ -1,5 +1,5 @@
--- The same events make the same world, but for answers of the law that nobody asked for and for what is noted of inputs; its nodes make
--- the same steps, and the same premises are tried (this project's profile).
+-- The same events make the same world, except for answers of the law that nobody asked for and for what is noted of
+-- inputs; its nodes make the same steps, and the same premises are tried (this project's profile).
 use Rattle.std.specs.Prelude.{◌≡◌, ℕ, ℤ, List, [], ◌∷◌, Result}
 use Rattle.wrp_base.specs.declared.message.PtpMsg.{PtpMsg}
 use Rattle.wrp_frame.specs.declared.fault.FrameFault.{FrameFault}
@@ -12,7 +12,7 @@ use Rattle.wrp_course.specs.Run.{AllSaid, Happened, IsAnswered, IsSaid, steps_at
 use Rattle.wrp_course.specs.Setting.{Setting, node_setting_of}
 use Rattle.wrp_course.specs.WorldAt.{WorldAt}
 
--- Two worlds that differ in what their servos were told of answers, and in what is noted of inputs, alone
+-- Two worlds that differ only in the answers that their servos were given, and in what is noted of inputs
 
 abbrev pub with_all : (ℕ → List Call) → (ℕ → List Taken) → WorldAt → WorldAt
 with_all calls inputs v = record v { node = λ n. record (v.node n) { calls = calls n }; inputs = inputs }
@@ -37,8 +37,8 @@ SameEvents [] [] = Unit {0}
 SameEvents (h ∷ before) (k ∷ others) = (h.event ≡ k.event) × SameEvents before others
 SameEvents _ _ = ⊥
 
--- what is the same after two runs of the same events: the worlds are alike; a further event makes the same steps in both; and an event
--- is tried against the same premises in both, whatever is noted beside the octets of a Noise
+-- what is the same after two runs of the same events: the worlds are alike; a further event makes the same steps in
+-- both; and an event is tried against the same premises in both, whatever is noted with the octets of a Noise
 pub record SameWorlds (law : ℕ → ℤ → ℤ) (s : Setting) (events others : List Happened) : Type 0 where
   pub after : Alike s (world_after s events) (world_after s others)
   pub steps :

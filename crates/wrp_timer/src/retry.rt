@@ -18,14 +18,14 @@ impl Model for Retry {
 }
 
 impl Retry {
-    /// So many retries: 0 or more.
+    /// This many retries: 0 or more.
     pub fn new(times: u32) -> Retry
         ensures { result ≡ times }
     {
         Retry { left: times }
     }
 
-    /// Takes one retry, and tells whether there was one to take.
+    /// Takes one retry, and says whether there was one to take.
     pub fn take(&mut self) -> bool
         ensures taken { IsTrue result ↔ (0 < self.old) }
         ensures left { self.new ≡ self.old - 1 }

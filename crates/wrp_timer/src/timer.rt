@@ -26,8 +26,8 @@ impl Timer {
         Timer { rest: ticks }
     }
 
-    /// Counts one tick, and tells whether the timer ended with it. A timer that has ended stays so,
-    /// and tells no further end.
+    /// Counts one tick, and says whether the timer ended with it. A timer that has ended stays so,
+    /// and reports no further end.
     pub fn tick(&mut self) -> bool
         ensures ends { IsTrue result ↔ (self.old ≡ 1) }
         ensures counts { self.new ≡ self.old - 1 }

@@ -3,7 +3,7 @@ use Rattle.std.proofs.Common.{◌≡◌, ◌++◌, ℕ, List, ap, ◌∙◌, app
 use Rattle.arrayvec.specs.ArrayVec.{ArrayVec}
 use Rattle.wrp_tlv.specs.Appending.{Appends}
 
--- what is appended first, and what is appended behind it
+-- what is appended first, and what is appended after it
 pub and_then : {old one two : ArrayVec ℕ} {a b : List ℕ} → Appends old a one → Appends one b two → Appends old (a ++ b) two
 and_then {old} {one} {two} {a} {b} first second = record {
   items = second.items ∙ ap (λ l. l ++ b) first.items ∙ append_assoc old.items a b;

@@ -13,14 +13,14 @@ use Rattle.wrp_tlv.specs.Octets.{number_at}
 use Rattle.wrp_tlv.specs.WhiteRabbit.{wr_read, read_by_id, sized, is_white_rabbit, calibrate_at, calibrated_at, wr_value, suffix_value, value_start, HaveOneValue}
 use Rattle.wrp_tlv.proofs.Written.{width_of, sent_from, all_sent}
 
--- the value is the one that this is sent as
+-- the value is the one as which this is sent
 abbrev pub IsSentAs : List ℕ → WrRead → Type 0
 IsSentAs value (Wr message) = value ≡ wr_value message
 IsSentAs value (Suffix flags) = value ≡ suffix_value flags
 IsSentAs value Other = Unit {0}
 IsSentAs value BadWr = Unit {0}
 
--- what is said of both ways is said of an if
+-- what holds in both cases holds of an if
 either : (value : List ℕ) (b : Bool) (one two : WrRead) → (b ≡ true → IsSentAs value one) → IsSentAs value two → IsSentAs value (if b then one else two)
 either value true one two is rest = is refl
 either value false one two is rest = rest
@@ -33,7 +33,7 @@ row value id own long read rest is others =
     (λ same. either value (length value == long) read BadWr (λ whole. is (eqb-true id own same) (eqb-true (length value) long whole)) tt)
     others
 
--- a White Rabbit value of this id, with numbers of these widths behind it
+-- a White Rabbit value of this id, with numbers of these widths after it
 value_is : (value : List ℕ) (id : ℕ) (widths : List ℕ) → AreOctets value → number_at 0 6 value ≡ 0x0800_30DE_AD01 → number_at 6 2 value ≡ id
     → length value ≡ 8 + width_of widths → value ≡ value_start id ++ sent_from 8 widths value
 value_is value id widths octets white is long =
@@ -63,7 +63,7 @@ by_id value octets white id at_6 =
     (row value id 0x1005 8 (Wr ModeOn) _ (is 0x1005 [])
     (row value id 0x2000 10 (Suffix (number_at 8 2 value)) Other (is 0x2000 (2 ∷ [])) tt))))))
 
--- a value is the one that what it says is sent as
+-- a value is the one as which what it says is sent
 sent_as : (value : List ℕ) → AreOctets value → IsSentAs value (wr_read value)
 unfolding wr_read
 sent_as value octets =

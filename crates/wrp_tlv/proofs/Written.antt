@@ -1,4 +1,4 @@
--- Octets from which numbers are read are the octets that these numbers are sent as.
+-- Octets from which numbers are read are the octets as which these numbers are sent.
 use Rattle.std.proofs.Common.{◌≡◌, ◌<◌, ◌≤◌, ◌+◌, ◌*◌, ◌^◌, ◌%◌, ℕ, zero, suc, List, [], ◌∷◌, ◌++◌, length, drop, refl, sym, ap, ◌∙◌, arith, length-drop}
 use Rattle.std.specs.Int.{byte_at}
 use Rattle.std.proofs.Math.Nat.{pow-succ', mul_assoc, add-mul}
@@ -9,13 +9,13 @@ use Rattle.byteorder.specs.Numbers.{big_from-cons, big_from-lt}
 use Rattle.wrp_base.specs.Octets.{AreOctets}
 use Rattle.wrp_tlv.specs.Octets.{number_at}
 
--- an octet of a number, by what stands above and below it
+-- an octet of a number, by what is above and below it
 octet_of : (k high x low : ℕ) → low < 256 ^ k → x < 256 → byte_at k ((high * 256 + x) * 256 ^ k + low) ≡ x
 octet_of zero high x low below small = omega arith
 octet_of (suc k) high x low below small =
     ap (λ n. n % 256) (div-mul-add (high * 256 + x) (256 ^ suc k) low below) ∙ mod-mul-add high 256 x small
 
--- the number in the first n octets is sent as these octets, whatever stands above it
+-- the number in the first n octets is sent as these octets, whatever is above it
 written : (n high : ℕ) (octets : List ℕ) → AreOctets octets → n ≤ length octets
     → big_bytes n (high * 256 ^ n + big_from 0 n octets) ++ drop n octets ≡ octets
 written zero high octets small long = refl
@@ -31,7 +31,7 @@ written (suc n) high (x ∷ xs) small long =
     (ap (λ o. o ∷ (big_bytes n ((high * 256 + x) * 256 ^ n + big_from 0 n xs) ++ drop n xs)) (octet_of n high x (big_from 0 n xs) low (small 0))
     ∙ ap (λ l. x ∷ l) (written n (high * 256 + x) xs (λ k. small (suc k)) fewer))
 
--- what stands from a place on is the number there as it is sent, and what stands behind it
+-- what comes from a place on is the number there as it is sent, and what comes after it
 from_place : (at n : ℕ) (value : List ℕ) → AreOctets value → at + n ≤ length value
     → drop at value ≡ big_bytes n (number_at at n value) ++ drop (at + n) value
 from_place at n value octets within =
@@ -51,7 +51,7 @@ abbrev pub sent_from : ℕ → List ℕ → List ℕ → List ℕ
 sent_from at [] value = []
 sent_from at (n ∷ widths) value = big_bytes n (number_at at n value) ++ sent_from (at + n) widths value
 
--- where their widths are all that is left, they are all that stands there
+-- if their widths are all that is left, they are all that is there
 pub all_sent : (at : ℕ) (widths : List ℕ) (value : List ℕ) → AreOctets value → length value ≡ at + width_of widths
     → drop at value ≡ sent_from at widths value
 all_sent at [] value octets long = drop_all at value (omega arith)

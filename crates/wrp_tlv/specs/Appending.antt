@@ -7,6 +7,6 @@ use Rattle.wrp_base.specs.Octets.{frame_room}
 abbrev pub HasRoom : ℕ → ArrayVec ℕ → Type 0
 HasRoom n frame = array_vec_len frame + n ≤ frame_room
 
--- the new frame is the old one with these octets behind it
+-- the new frame is the old one with these octets after it
 pub record Appends (old : ArrayVec ℕ) (octets : List ℕ) (new : ArrayVec ℕ) : Type 0 where
   pub items : new.items ≡ old.items ++ octets

@@ -3,7 +3,7 @@ use Rattle.std.specs.Prelude.{◌≡◌, ℕ, List, [], ◌∷◌, ◌++◌, len
 use Rattle.byteorder.specs.Endian.{big_bytes}
 use Rattle.wrp_tlv.specs.Octets.{number_at}
 
--- a whole TLV, wherever it stands: its tlvType and its value
+-- a whole TLV, wherever it is: its tlvType and its value
 pub record TypedValue : Type 0 where
   pub kind : ℕ
   pub value : List ℕ

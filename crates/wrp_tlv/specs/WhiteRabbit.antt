@@ -13,7 +13,7 @@ use Rattle.wrp_tlv.specs.Octets.{number_at}
 abbrev pub is_white_rabbit : List ℕ → Bool
 is_white_rabbit value = nat_le 6 (length value) && (number_at 0 6 value == 0x0800_30DE_AD01)
 
--- what is said by a value of this length, and nothing by one of another length
+-- what a value of this length says; a value of another length says nothing
 abbrev pub sized : ℕ → List ℕ → WrRead → WrRead
 sized n value read = if length value == n then read else BadWr
 
@@ -38,14 +38,14 @@ read_by_id id value =
     else if id == 0x2000 then sized 10 value (Suffix (number_at 8 2 value))
     else Other
 
--- what the value of an ORGANIZATION_EXTENSION says: without an id it is a bad one of White Rabbit
+-- what the value of an ORGANIZATION_EXTENSION says: without an id it is a bad value of White Rabbit
 unfoldable pub wr_read : List ℕ → WrRead
 wr_read value =
     if is_white_rabbit value
     then if nat_lt (length value) 8 then BadWr else read_by_id (number_at 6 2 value) value
     else Other
 
--- with what the value of an id begins: organizationId, organizationSubType, and the id
+-- the beginning of the value of an id: organizationId, organizationSubType, and the id
 abbrev pub value_start : ℕ → List ℕ
 value_start id = big_bytes 6 0x0800_30DE_AD01 ++ big_bytes 2 id
 
@@ -58,7 +58,7 @@ id_of (Calibrate pattern retry period) = 0x1003
 id_of (Calibrated tx rx) = 0x1004
 id_of ModeOn = 0x1005
 
--- the data behind the id
+-- the data after the id
 abbrev pub data_of : WrMsg → List ℕ
 data_of Present = []
 data_of Lock = []
@@ -85,7 +85,7 @@ FitsOctets ModeOn = Unit {0}
 abbrev pub suffix_value : ℕ → List ℕ
 suffix_value flags = value_start 0x2000 ++ big_bytes 2 flags
 
--- only the value of a message is read as that message, and only that of a suffix as that suffix
+-- only the value of a message is read as that message, and only the value of a suffix as that suffix
 pub record HaveOneValue : Type 0 where
   pub message : (value : List ℕ) (message : WrMsg)
       → AreOctets value → wr_read value ≡ Wr message → value ≡ wr_value message

@@ -1,5 +1,5 @@
--- What a list of TLVs says of White Rabbit: that the first message and the first suffix count is
--- this project's profile.
+-- What a list of TLVs says of White Rabbit: that the first message and the first suffix count is this project's
+-- profile.
 use Rattle.std.specs.Prelude.{ℕ, Bool, true, false, ◌==◌, if◌then◌else◌, List, [], ◌∷◌, Option, Some, None}
 use Rattle.wrp_base.specs.declared.message.WrMsg.{WrMsg}
 use Rattle.wrp_tlv.specs.declared.white_rabbit.WrRead.{WrRead}
@@ -18,14 +18,14 @@ is_bad (Wr message) = false
 is_bad (Suffix flags) = false
 is_bad Other = false
 
--- the message that is read, and else the later one
+-- the message that is read, else the later one
 abbrev pub message_or : WrRead → Option WrMsg → Option WrMsg
 message_or (Wr message) later = Some message
 message_or (Suffix flags) later = later
 message_or Other later = later
 message_or BadWr later = later
 
--- the wrFlags that are read, and else the later ones
+-- the wrFlags that are read, else the later ones
 abbrev pub suffix_or : WrRead → Option ℕ → Option ℕ
 suffix_or (Suffix flags) later = Some flags
 suffix_or (Wr message) later = later

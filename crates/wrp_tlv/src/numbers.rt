@@ -1,4 +1,4 @@
-//! Reads the numbers that stand at a place of the octets, big-endian.
+//! Reads the numbers at a place of the octets, big-endian.
 ghost use Rattle.std.specs.Prelude.{◌≡◌, ◌+◌, ◌≤◌, length};
 ghost use Rattle.wrp_tlv.specs.Octets.{number_at, signed_16_at, signed_64_at};
 

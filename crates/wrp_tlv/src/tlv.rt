@@ -1,4 +1,4 @@
-//! The TLV that stands at a place of the octets (IEEE 1588-2019).
+//! The TLV at a place of the octets (IEEE 1588-2019).
 ghost use Rattle.std.specs.Prelude.{◌≡◌, ◌<◌, ◌≤◌, ◌+◌, ◌↔◌, length};
 ghost use Rattle.wrp_tlv.specs.Octets.{number_at};
 ghost use Rattle.wrp_tlv.specs.TlvAt.{StandsAt};
@@ -16,11 +16,11 @@ pub struct Tlv {
     pub kind: u16,
     /// The place of the value's first octet.
     pub from: usize,
-    /// The place behind the value's last octet.
+    /// The place after the value's last octet.
     pub to: usize,
 }
 
-/// Why no whole TLV stands at a place.
+/// Why there is no whole TLV at a place.
 #[derive(Clone, Copy, Debug, PartialEq, Eq)]
 pub enum TlvFault {
     /// 1: fewer than the 4 octets of tlvType and lengthField are left.
@@ -29,8 +29,8 @@ pub enum TlvFault {
     TlvOverrun,
 }
 
-/// The TLV that stands at `n`. `TlvShort` where fewer than 4 octets are left there, `TlvOverrun`
-/// where the value would run past the end.
+/// The TLV at `n`. `TlvShort` if fewer than 4 octets are left there, `TlvOverrun` if the value
+/// would run past the end.
 pub fn tlv_at(bytes: &[u8], n: usize) -> Result<Tlv, TlvFault>
     requires { n < length bytes.now }
     ensures ok { (tlv : Tlv) → (result ≡ Ok tlv) ↔ StandsAt bytes.now n tlv }

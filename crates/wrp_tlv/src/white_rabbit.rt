@@ -9,7 +9,7 @@ use wrp_base::WrMsg;
 pub const WHITE_RABBIT: u64 = 0x0800_30DE_AD01;
 /// The octets of organizationId and organizationSubType.
 pub const PREFIX_LENGTH: usize = 6;
-/// Those and the White Rabbit id behind them.
+/// Those octets and the White Rabbit id after them.
 pub const ID_LENGTH: usize = 8;
 
 /// White Rabbit id of SLAVE_PRESENT.
@@ -47,8 +47,8 @@ pub enum WrRead {
     BadWr,
 }
 
-/// What the value of an ORGANIZATION_EXTENSION says. `Other` where it is none of White Rabbit, or
-/// of an id that is not listed; `BadWr` where no id follows, or the id has another length.
+/// What the value of an ORGANIZATION_EXTENSION says. `Other` if it is no value of White Rabbit, or
+/// has an id that is not listed; `BadWr` if no id follows, or the id has another length.
 #[tactic(auto, unfolding(crate::specs::WhiteRabbit::wr_read))]
 pub fn wr_of(value: &[u8]) -> WrRead
     ensures { result ≡ wr_read value.now }
@@ -62,7 +62,8 @@ pub fn wr_of(value: &[u8]) -> WrRead
     by_id(u16_at(value, PREFIX_LENGTH), value)
 }
 
-/// Only the value that a message is sent as is read as that message, and so it is with a suffix.
+/// Only the value as which a message is sent is read as that message, and the same holds of a
+/// suffix.
 pub fn one_value()
     ensures { HaveOneValue }
 {}

@@ -62,7 +62,7 @@ fn row_of(m: &WrMsg) -> (u16, usize)
     }
 }
 
-// Appends the data behind the id.
+// Appends the data after the id.
 fn put_data(m: &WrMsg, out: &mut Frame)
     requires { HasRoom 16 out.old }
     ensures appended { Appends out.old (data_of m.now) out.new }

@@ -1,4 +1,4 @@
--- In TRACK the four that stands is young: a tick at which it is too old ends TRACK.
+-- In TRACK the four that the servo holds is young: a tick at which it is too old ends TRACK.
 use Rattle.std.proofs.Common.{◌≡◌, refl, sym, subst, ℕ, ℤ, Bool, true, false, cond, ◌&&◌, nat_le, ◌+◌, ◌-◌, ◌≤◌, is_some, Option, None, Some, List, [], ◌∷◌, arith}
 use Rattle.std.proofs.lemmas.Bool.Decides.{nat_tests}
 use Rattle.std.specs.Prelude.{nat_lt, int_le, IfSome}
@@ -29,7 +29,7 @@ either : (b : Bool) (v w : Core) → Shows v → Shows w → Shows (cond b v w)
 either true v w h k = h
 either false v w h k = k
 
--- where none stands, none is old
+-- if there is none, none is old
 nothing : (v : Core) → v.kept ≡ None → Shows v
 nothing v none _ = let P : Option Measurement → Type 0 = λ o. too_old v.set.age v.ticks o ≡ false in subst P (sym none) refl
 

@@ -48,7 +48,7 @@ apart-is p e a b positive near =
       | inr close ↦ (pos (unsigned_abs (int_rem_euclid (a -ℤ b) (pos p))), i, j, omega (arith, ints), omega (arith, ints))
     ]
 
--- where two times differ by whole periods alone, they are no distance apart round the period
+-- if two times differ only by whole periods, they are no distance apart round the period
 whole-round : (clock : Clock) (a b : ℤ) (i j : ℕ) → a +ℤ pos (i * period_of clock) ≡ b +ℤ pos (j * period_of clock) → distance_round clock a b ≡ 0
 whole-round Mhz125 a b i j is =
     let (k, l, left, below) = left_over (a -ℤ b) 524_288_000 (lit< tt) in
@@ -131,7 +131,7 @@ constant-starts clock e u first near =
       },
     )
 
--- a good sample that follows another keeps that one's constant
+-- a good sample that follows another keeps the other's constant
 pub constant-kept : (clock : Clock) (e h : ℕ) (constant u : ℤ) (before next : TruePhase) → HasPhaseRoom clock e h → KeepsConstant clock e constant u before.tag before.phase → Follows clock e h before next →
     KeepsConstant clock e constant (unwrapped_by clock u before.tag next.tag) next.tag next.phase
 constant-kept clock e h constant u before next small keeps follows =

@@ -15,7 +15,7 @@ use Rattle.wrp_tracking_laws.proofs.Sides.{phase_moved}
 abbrev ports_sum : Deltas → ℤ
 ports_sum d = ((pos d.txm +ℤ pos d.rxs) +ℤ pos d.txs) +ℤ pos d.rxm
 
--- both ways of the fibre now, as the law's argument tells them
+-- both ways of the fibre now, as the law's argument gives them
 argument_near : (hop : HopNumbers) (constant : ℤ) (four : Four) (deltas : Deltas) (now : Moment) → FourFacts hop constant four now → (fibre : FibreHolds hop now deltas) →
     IsWithin (both_ways_error hop) (x_of deltas four) (fibre.down_fibre +ℤ fibre.up_fibre)
 argument_near hop constant four deltas now stamps fibre =

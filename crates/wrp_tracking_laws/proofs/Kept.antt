@@ -1,4 +1,4 @@
--- The measurement that stands was brought by a call: each other call keeps it or forgets it.
+-- The measurement that the servo holds was brought by a call: each other call keeps it or forgets it.
 use Rattle.std.proofs.Common.{◌≡◌, ℕ, ℤ, refl, sym, ap, subst, ◌∙◌, List, [], ◌∷◌, Bool, true, false, cond, is_some, Option, Some, None, inl, inr}
 use Rattle.std.specs.Prelude.{◌⊎◌, nat_le, int_le, ◌&&◌, ◌-◌}
 use Rattle.wrp_base.specs.declared.link.Deltas.{Deltas}
@@ -15,7 +15,7 @@ use Rattle.wrp_servo.specs.Call.{Call, CallSample, CallMeasured, CallTick, CallL
 use Rattle.wrp_tracking_laws.specs.ServoGives.{WasMeasured, KeptIsMeasured}
 use Rattle.wrp_tracking_laws.proofs.Ages.{ended_in-none}
 
--- what stands of a measurement, or nothing
+-- what is left of a measurement, or nothing
 abbrev Leaves : Option Measurement → Core → Type 0
 Leaves o w = (w.kept ≡ None) ⊎ (w.kept ≡ o)
 

@@ -1,4 +1,4 @@
--- In TRACK a measurement stands, by which the loop's error and the residual are within their limits.
+-- In TRACK the servo holds a measurement, by which the loop's error and the residual are within their limits.
 use Rattle.std.proofs.Common.{◌≡◌, ℕ, ℤ, pos, ◌≤◌, sym, ap, subst, ◌∙◌, true, false, is_some, Option, Some, None, refl}
 use Rattle.std.specs.Prelude.{unsigned_abs}
 use Rattle.wrp_base.proofs.Integers.{pos_le}

@@ -1,5 +1,5 @@
--- The sync side and the delay side of an exchange: what two stamps and the phase that one of them latched tell,
--- from stamps, flight and waiting alone.
+-- The sync side and the delay side of an exchange: what two stamps and the phase that one of them latched give, from
+-- only the stamps, the flight and the waiting.
 use Rattle.std.proofs.Common.{◌≡◌, ℕ, ℤ, ◌+◌, ◌≤◌, ◌-ℤ◌, ◌+ℤ◌, arith}
 use Rattle.std.proofs.lemmas.Int.{ints}
 use Rattle.std.specs.Prelude.{unsigned_abs}
@@ -10,7 +10,7 @@ use Rattle.wrp_tracking_laws.specs.Moment.{Moment, phase_at, ways_at}
 use Rattle.wrp_tracking_laws.specs.Rates.{KeepsRates, KeepsParentRate}
 use Rattle.wrp_tracking_laws.proofs.Sums.{sync_stamps, sync_side, delay_stamps, delay_side, moved_three, moved_two, moved_one}
 
--- a stamp latched the phase u of a good sample, which tells the chain's constant, at most a gap before
+-- a stamp latched the phase u of a good sample, which gives the chain's constant, at most a gap before
 pub record Latched (hop : HopNumbers) (constant u : ℤ) (sample stamped : Moment) (wait : ℕ) : Type 0 where
   pub since : KeepsRates hop sample stamped wait
   pub near : wait ≤ hop.gap_time
@@ -63,7 +63,7 @@ parent_moved hop a b time rates near = moved_one (b.parent -ℤ a.parent) hop.pa
 turned : (e : ℕ) (a b : ℤ) → IsWithin e a b → IsWithin e b a
 turned e a b h = omega (arith, ints)
 
--- a Sync tells the chain's constant C: t2 - t1 - u2 is within the error of the way down of -C
+-- a Sync gives the chain's constant C: t2 - t1 - u2 is within the error of the way down of -C
 pub sync-side : (hop : HopNumbers) (constant t1 t2 u2 : ℤ) (sent sample came : Moment) (flight wait : ℕ) → SyncFacts hop constant t1 t2 u2 sent sample came flight wait →
     IsWithin (down_error hop) ((t1 -ℤ t2) +ℤ u2) constant
 sync-side hop constant t1 t2 u2 sent sample came flight wait facts =
@@ -72,7 +72,7 @@ sync-side hop constant t1 t2 u2 sent sample came flight wait facts =
     (turned (reach_motion hop) (came.down -ℤ came.parent) (sent.down -ℤ sent.parent) (flight_moved hop sent came flight facts.flown.rates facts.flown.short)))
     (phase_moved hop sample came wait facts.latched.since facts.latched.near) facts.latched.phase
 
--- a Delay_Req tells C and both ways as they were when it departed: t4 - t3 + u3 is within the error of the way up of
+-- a Delay_Req gives C and both ways as they were when it departed: t4 - t3 + u3 is within the error of the way up of
 -- their sum
 pub delay-side : (hop : HopNumbers) (constant t3 t4 u3 : ℤ) (sample sent came : Moment) (wait flight : ℕ) → DelayFacts hop constant t3 t4 u3 sample sent came wait flight →
     IsWithin (up_error hop) ((t4 -ℤ t3) +ℤ u3) (constant +ℤ ways_at sent)

@@ -8,7 +8,7 @@ use Rattle.wrp_base.specs.Closeness.{IsWithin}
 use Rattle.wrp_bounds.specs.Motion.{rounded_up, motion}
 use Rattle.wrp_bounds.proofs.Rounding.{rounded_up-next}
 
--- the Sync's two stamps tell the phase at its arrival
+-- the Sync's two stamps give the phase at its arrival
 pub sync_stamps : (departure arrival t1 t2 d1 d2 n2 p1 p2 : ℤ) (tx tag v : ℕ) →
     IsWithin tx t1 (departure +ℤ p1) → IsWithin tag t2 (arrival +ℤ n2) → arrival ≡ departure +ℤ d1 →
     IsWithin v (d1 -ℤ p1) (d2 -ℤ p2) → IsWithin (tx + tag + v) (t2 -ℤ t1) (n2 -ℤ p2 +ℤ d2)
@@ -20,7 +20,7 @@ pub sync_side : (t1 t2 u2 phase latched constant : ℤ) (e h d : ℕ) →
     IsWithin (e + d + h) (t1 -ℤ t2 +ℤ u2) constant
 sync_side t1 t2 u2 phase latched constant e h d stamps moved near = omega (arith, ints)
 
--- the Delay_Req's two stamps tell both ways but for the phase at its departure
+-- the Delay_Req's two stamps give both ways except for the phase at its departure
 pub delay_stamps : (departure arrival t3 t4 d3 s3 n3 p3 p4 : ℤ) (tx tag v : ℕ) →
     IsWithin tx t3 (departure +ℤ n3) → IsWithin tag t4 (arrival +ℤ p4) → arrival ≡ departure +ℤ s3 →
     IsWithin v p4 p3 → IsWithin (tx + tag + v) ((t4 -ℤ t3) +ℤ (n3 -ℤ p3 +ℤ d3)) (d3 +ℤ s3)
@@ -72,7 +72,7 @@ both_moved_by d u t g r a b c e = omega (arith, ints)
 pub both_moved : (d u : ℤ) (t g : ℕ) → unsigned_abs d * 1_000_000_000_000 ≤ 2 * t → unsigned_abs u * 1_000_000_000_000 ≤ 2 * t → t ≤ g → unsigned_abs (d +ℤ u) ≤ motion 4 g
 both_moved d u t g a b c = both_moved_by d u t g (motion 4 g) a b c (in_motion 4 g)
 
--- both ways, as the two sides tell them: the chain's constant falls out
+-- both ways, as the two sides give them: the chain's constant falls out
 pub two_sides : (t1 t2 t3 t4 u2 u3 constant ways : ℤ) (a b : ℕ) →
     IsWithin a (t1 -ℤ t2 +ℤ u2) constant → IsWithin b (t4 -ℤ t3 +ℤ u3) (constant +ℤ ways) →
     IsWithin (a + b) ((t2 -ℤ t1 -ℤ u2) +ℤ (t4 -ℤ t3 +ℤ u3)) ways

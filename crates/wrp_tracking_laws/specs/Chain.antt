@@ -1,5 +1,5 @@
--- What is true of a chain, over the history of one link: the limits that held since, its good samples and
--- its constant (this project's profile).
+-- What is true of a chain, over the history of one link: the limits that held since, its good samples and its constant
+-- (this project's profile).
 use Rattle.std.specs.Prelude.{ℕ, ℤ, pos, ◌≡◌, ◌≤◌, ◌+ℤ◌, ◌-ℤ◌, ◌≤ℤ◌, length, List, [], ◌∷◌}
 use Rattle.std.specs.List.{AllByRecursion}
 use Rattle.wrp_base.specs.Circle.{distance_round}
@@ -18,7 +18,7 @@ pub record Good : Type 0 where
   pub u : ℤ
   pub at : ℕ
 
--- a good sample of a chain that began at the moment `start` tells the constant within the detector's error
+-- a good sample of a chain that began at the moment `start` gives the constant within the detector's error
 pub record GoodTells (hop : HopNumbers) (past : List Moment) (start : ℕ) (constant : ℤ)
     (good : Good) : Type 0 where
   pub since : start ≤ good.at
@@ -39,8 +39,8 @@ pub record KeepsLimits (hop : HopNumbers) (past : List Moment) (from start : ℕ
   pub own : EachStep (MovesSlowly hop.own.rate (λ m. m.own)) start past
   pub above : KeepsLimitsAbove hop past from
 
--- a chain with its limits, its good samples and the newest of them, whose tag also lies round the period
--- where the unwrapped phase says
+-- a chain with its limits, its good samples and the newest of them, whose tag also lies round the period where the
+-- unwrapped phase says
 pub record ChainHolds (hop : HopNumbers) (past : List Moment) (from start : ℕ) (constant : ℤ)
     (newest : Good) (earlier : List Good) : Type 0 where
   pub limits : KeepsLimits hop past from start
@@ -57,12 +57,12 @@ pub record PassesSlowly (hop : HopNumbers) (before now : Moment) : Type 0 where
   pub down : MovesSlowly 2 (λ m. m.down) before now
   pub up : MovesSlowly 2 (λ m. m.up) before now
 
--- the tag of a good sample tells the true phase of this moment within the detector's error
+-- the tag of a good sample gives the true phase of this moment within the detector's error
 abbrev pub TagTells : HopNumbers → (tag : ℕ) → Moment → Type 0
 TagTells hop tag now =
     distance_round hop.clock (pos (phase_of hop.clock tag)) (phase_at now) ≤ detector_error hop
 
--- the moment of this number is at most so long ago
+-- the moment of this number is at most this long ago
 pub record IsRecent (at : ℕ) (now : Moment) (past : List Moment) (time : ℕ) : Type 0 where
   pub moment : Moment
   pub was : Was (now ∷ past) at moment
@@ -103,7 +103,7 @@ SampleKeepsChain =
     ChainHolds hop (now ∷ past) from start constant
     (good_now number tag (unwrapped_by hop.clock newest.u newest.tag tag) past) (newest ∷ earlier)
 
--- a frame that departed and arrived at two moments of the history, after this way
+-- a frame that departed and arrived at two moments of the history, with this way between them
 pub record FlewAt (hop : HopNumbers) (past : List Moment) (sent_at came_at : ℕ)
     (sent came : Moment) (way : ℤ) : Type 0 where
   pub was_sent : Was past sent_at sent
@@ -119,7 +119,7 @@ pub record LatchedAt (hop : HopNumbers) (past : List Moment) (good : Good) (at :
   pub order : good.at ≤ at
   pub near : stamped.time ≤ℤ (sample.time +ℤ pos hop.gap_time)
 
--- a Sync that departed while the limits above held, and that arrived in the chain, tells the constant
+-- a Sync that departed while the limits above held, and that arrived in the chain, gives the constant
 abbrev pub SyncTellsConstant : Type 0
 SyncTellsConstant =
     (hop : HopNumbers) (past : List Moment) (from start : ℕ) (constant t1 t2 : ℤ) (good : Good) →
@@ -133,7 +133,7 @@ SyncTellsConstant =
     IsWithin hop.own.e_tag t2 (came.time +ℤ came.own) →
     IsWithin (down_error hop) ((t1 -ℤ t2) +ℤ good.u) constant
 
--- a Delay_Req that departed in the chain tells the constant and both ways
+-- a Delay_Req that departed in the chain gives the constant and both ways
 abbrev pub DelayTellsWays : Type 0
 DelayTellsWays =
     (hop : HopNumbers) (past : List Moment) (from start : ℕ) (constant t3 t4 : ℤ) (good : Good) →

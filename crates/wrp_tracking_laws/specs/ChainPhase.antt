@@ -1,5 +1,5 @@
--- A chain's constant: along the good samples of a chain the unwrapped phase keeps its distance from the
--- true phase, but for the detector's error (this project's profile).
+-- A chain's constant: along the good samples of a chain the unwrapped phase keeps its distance from the true phase,
+-- except for the detector's error (this project's profile).
 use Rattle.std.specs.Prelude.{ℕ, ℤ, pos, ◌≡◌, ◌+◌, ◌*◌, ◌<◌, ◌+ℤ◌, ◌-ℤ◌, Some}
 use Rattle.wrp_base.specs.declared.time.Clock.{Clock}
 use Rattle.wrp_base.specs.Clock.{period_of}

@@ -1,5 +1,5 @@
--- What is true of the delay half of an exchange, over the list of its calls, the newest first: the open
--- request's sending and the delay pair tell the chain's constant and both ways (this project's profile).
+-- What is true of the delay half of an exchange, over the list of its calls, the newest first: the open request's
+-- sending and the delay pair give the chain's constant and both ways (this project's profile).
 use Rattle.std.specs.Prelude.{ℕ, ℤ, ◌≡◌, ◌≤◌, ◌+ℤ◌, ◌-ℤ◌, List, ◌∷◌, IfSome}
 use Rattle.wrp_base.specs.declared.time.Stamp.{Stamp}
 use Rattle.wrp_base.specs.declared.measurement.Four.{Four}
@@ -17,13 +17,13 @@ use Rattle.wrp_tracking_laws.specs.History.{Was}
 use Rattle.wrp_tracking_laws.specs.ErrorSum.{sync_sum, delay_sum}
 use Rattle.wrp_tracking_laws.specs.SyncPieces.{Told, Among, SyncHolds}
 
--- a Delay_Resp with a sending tells the constant and both ways as they were at the departure
+-- a Delay_Resp with a sending gives the constant and both ways as they were at the departure
 abbrev pub TellsWays : HopNumbers → (constant : ℤ) → (t4 : ℤ) → Sent → Moment → Type 0
 TellsWays hop constant t4 s sent =
     IsWithin (up_error hop) ((t4 -ℤ s.t3) +ℤ s.u3) (constant +ℤ ways_at sent)
 
--- a Delay_Req's sending was at a moment of the history, and each Delay_Resp of its id that may still come
--- tells the constant and both ways
+-- a Delay_Req's sending was at a moment of the history, and each Delay_Resp of its id that may still come gives the
+-- constant and both ways
 pub record SentTrue (hop : HopNumbers) (constant : ℤ) (past : List Moment) (from : ℕ)
     (may : List Told) (seq : ℕ) (s : Sent) : Type 0 where
   pub at : ℕ
@@ -34,7 +34,7 @@ pub record SentTrue (hop : HopNumbers) (constant : ℤ) (past : List Moment) (fr
   pub own :
       (told : Told) → Among told may → told.seq ≡ seq → TellsWays hop constant told.time s sent
 
--- a delay pair tells the constant and both ways as they were at a moment of the history
+-- a delay pair gives the constant and both ways as they were at a moment of the history
 pub record PairTrue (hop : HopNumbers) (constant : ℤ) (past : List Moment) (from : ℕ)
     (p : DelayPair) : Type 0 where
   pub at : ℕ
@@ -44,7 +44,7 @@ pub record PairTrue (hop : HopNumbers) (constant : ℤ) (past : List Moment) (fr
   pub tick : p.tick ≡ sent.ticks
   pub tells : IsWithin (up_error hop) ((p.t4 -ℤ p.t3) +ℤ p.u3) (constant +ℤ ways_at sent)
 
--- the open request's sending and the pair tell the constant and both ways
+-- the open request's sending and the pair give the constant and both ways
 pub record DelayHolds (hop : HopNumbers) (constant : ℤ) (past : List Moment) (from : ℕ)
     (may : List Told) (ring : ℕ) (calls : List Call) : Type 0 where
   pub request :
@@ -60,7 +60,7 @@ RequestKeeps =
     DelayHolds hop constant past from may ring calls →
     DelayHolds hop constant past from may ring (CallReqOut seq ∷ calls)
 
--- a sending keeps it, where it is true if it is kept
+-- a sending keeps it, if it is true when it is kept
 abbrev pub SendingKeeps : Type 0
 SendingKeeps =
     (hop : HopNumbers) (constant : ℤ) (past : List Moment) (from : ℕ) (may : List Told) (ring : ℕ) →
@@ -90,15 +90,15 @@ OthersKeepDelay =
     × DelayHolds hop constant past from may ring (CallClear ∷ calls)
     × DelayHolds hop constant past from may ring (CallStart number ∷ calls)
 
--- the Sync of a four tells the constant, and its Delay_Req both ways as they were at a moment
+-- the Sync of a four gives the constant, and its Delay_Req both ways as they were at a moment
 abbrev pub FourTells : HopNumbers → ℤ → List Moment → ℕ → Four → Type 0
 FourTells hop constant past from f =
     IsWithin (down_error hop) (sync_sum f) constant
     × ((at : ℕ) × (sent : Moment) × Was past at sent × (from ≤ at) × (f.tick ≤ sent.ticks)
     × IsWithin (up_error hop) (delay_sum f) (constant +ℤ ways_at sent))
 
--- the four that stands after these calls: its Sync tells the constant, its Delay_Req both ways as they
--- were at a moment of the history, whose ticks are not before the four's
+-- the four after these calls: its Sync gives the constant, its Delay_Req both ways as they were at a moment of the
+-- history, whose ticks are not before the four's
 abbrev pub FourOfPieces : Type 0
 FourOfPieces =
     (hop : HopNumbers) (constant : ℤ) (past : List Moment) (from : ℕ) (said may : List Told) →

@@ -10,11 +10,11 @@ use Rattle.wrp_servo.specs.Measuring.{x_of}
 use Rattle.wrp_tracking_laws.specs.Moment.{Moment, phase_at, ways_at}
 use Rattle.wrp_tracking_laws.specs.Rates.{KeepsRates}
 
--- what the Sync's two stamps and their phase tell
+-- what the Sync's two stamps and their phase give
 abbrev pub sync_sum : Four → ℤ
 sync_sum f = (f.t1 -ℤ f.t2) +ℤ f.u2
 
--- what the Delay_Req's two stamps and their phase tell
+-- what the Delay_Req's two stamps and their phase give
 abbrev pub delay_sum : Four → ℤ
 delay_sum f = (f.t4 -ℤ f.t3) +ℤ f.u3
 
@@ -38,7 +38,7 @@ pub record Agree (e : ℕ) (a b : Deltas) : Type 0 where
   pub txs : IsWithin e (pos a.txs) (pos b.txs)
   pub rxm : IsWithin e (pos a.rxm) (pos b.rxm)
 
--- the link at a moment: its ports are as the database tells them, and its fibre has its asymmetry
+-- the link at a moment: its ports are as the database gives them, and its fibre has its asymmetry
 pub record FibreHolds (hop : HopNumbers) (now : Moment) (deltas : Deltas) : Type 0 where
   pub ports : Deltas
   pub down_fibre : ℤ
@@ -48,14 +48,14 @@ pub record FibreHolds (hop : HopNumbers) (now : Moment) (deltas : Deltas) : Type
   pub database : Agree hop.e_db ports deltas
   pub asymmetry : IsShare hop hop.e_asym down_fibre (down_fibre +ℤ up_fibre)
 
--- the four stamps tell the chain's constant, and both ways as they were at most an age ago
+-- the four stamps give the chain's constant, and both ways as they were at most an age ago
 pub record FourFacts (hop : HopNumbers) (constant : ℤ) (four : Four) (now : Moment) : Type 0 where
   pub ways : ℤ
   pub sync : IsWithin (down_error hop) (sync_sum four) constant
   pub delay : IsWithin (up_error hop) (delay_sum four) (constant +ℤ ways)
   pub moved : IsWithin (age_motion hop) ways (ways_at now)
 
--- the unwrapped phase tells the chain's constant, as it was at most a gap ago
+-- the unwrapped phase gives the chain's constant, as it was at most a gap ago
 pub record PhaseFacts (hop : HopNumbers) (constant u : ℤ) (sampled now : Moment) : Type 0 where
   pub phase : IsWithin (detector_error hop) (u -ℤ phase_at sampled) constant
   pub wait : ℕ
@@ -66,7 +66,7 @@ pub record PhaseFacts (hop : HopNumbers) (constant u : ℤ) (sampled now : Momen
 abbrev pub IsAnswer : HopNumbers → Deltas → Four → ℤ → Type 0
 IsAnswer hop deltas four y = IsShare hop hop.law_err y (x_of deltas four)
 
--- what TRACK lets stand: the loop's error, and the estimate less that error, within their limits
+-- what TRACK allows: the loop's error, and the estimate less that error, are within their limits
 pub record TrackFacts (hop : HopNumbers) (estimate loop_error : ℤ) : Type 0 where
   pub loop_limit : unsigned_abs loop_error ≤ hop.loop_tau
   pub track_limit : unsigned_abs (estimate -ℤ loop_error) ≤ hop.track_tau

@@ -1,5 +1,5 @@
--- A history: what was true after each event, the newest first (this project's profile). The number of a
--- moment is how many stand behind it, so that it stays when more come.
+-- A history: what was true after each event, the newest first (this project's profile). The number of a moment is how
+-- many moments come after it in the list, so it stays the same when more come.
 use Rattle.std.specs.Prelude.{ℕ, ℤ, ◌≡◌, ◌*◌, ◌≤◌, ◌-ℤ◌, ◌⊎◌, ◌≤ℤ◌, unsigned_abs, length, List, [], ◌∷◌}
 
 -- the moment of this number

@@ -1,5 +1,5 @@
--- The bound of one hop over a history: what the chain, the four that the servo keeps and the fibre make
--- of it at every moment (this project's profile).
+-- The bound of one hop over a history: what follows for it at every moment from the chain, the four that the servo
+-- keeps and the fibre (this project's profile).
 use Rattle.std.specs.Prelude.{ℕ, ℤ, pos, ◌≡◌, ◌≤◌, ◌+ℤ◌, ◌-ℤ◌, ◌≤ℤ◌, List, ◌∷◌}
 use Rattle.wrp_base.specs.declared.measurement.Four.{Four}
 use Rattle.wrp_base.specs.declared.link.Deltas.{Deltas}
@@ -11,7 +11,7 @@ use Rattle.wrp_tracking_laws.specs.History.{Was}
 use Rattle.wrp_tracking_laws.specs.ErrorSum.{sync_sum, delay_sum, estimate_of, FibreHolds, IsAnswer, TrackFacts}
 use Rattle.wrp_tracking_laws.specs.Chain.{Good, ChainHolds, IsRecent}
 
--- a Delay_Req of the chain departed at a moment of the history, and tells the constant and both ways
+-- a Delay_Req of the chain departed at a moment of the history, and gives the constant and both ways
 pub record WaysTold (hop : HopNumbers) (past : List Moment) (from : ℕ) (constant told : ℤ)
     : Type 0 where
   pub at : ℕ
@@ -20,16 +20,16 @@ pub record WaysTold (hop : HopNumbers) (past : List Moment) (from : ℕ) (consta
   pub since : from ≤ at
   pub tells : IsWithin (up_error hop) told (constant +ℤ ways_at sent)
 
--- the four that the servo keeps is true of the chain: its Sync tells the constant, and its Delay_Req the
--- constant and both ways, at most an age ago
+-- the four that the servo keeps is true of the chain: its Sync gives the constant, and its Delay_Req the constant and
+-- both ways, at most an age ago
 pub record FourHolds (hop : HopNumbers) (now : Moment) (past : List Moment) (from : ℕ)
     (constant : ℤ) (four : Four) : Type 0 where
   pub sync : IsWithin (down_error hop) (sync_sum four) constant
   pub delay : WaysTold hop (now ∷ past) from constant (delay_sum four)
   pub young : now.time ≤ℤ (delay.sent.time +ℤ pos hop.age_time)
 
--- what stands of a hop at the newest moment: a chain whose newest sample is recent, its four with an
--- answer of the law, and the fibre
+-- what holds of a hop at the newest moment: a chain whose newest sample is recent, its four with an answer of the law,
+-- and the fibre
 pub record HopStands (hop : HopNumbers) (now : Moment) (past : List Moment) (deltas : Deltas)
     (four : Four) (y u : ℤ) : Type 0 where
   pub from : ℕ

@@ -23,7 +23,7 @@ pub record TicksOnTime (dmin dmax : ℕ) (last : Moment → ℤ) (from : ℕ) (h
   pub on_time :
       (at : ℕ) (m : Moment) → Was history at m → from ≤ at → IsOnTime dmax (tick_of last m)
 
--- the four that stands is true of the chain, where it is at most `age` ticks old
+-- the four that the exchange hands over is true of the chain, if it is at most `age` ticks old
 abbrev pub FourIsTrue : Type 0
 FourIsTrue =
     (hop : HopNumbers) (now : Moment) (past : List Moment) (from : ℕ) (constant : ℤ) →

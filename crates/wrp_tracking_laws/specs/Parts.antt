@@ -57,14 +57,14 @@ moment_of cfg l w = record {
 abbrev pub offsets_of : WorldAt → Offsets
 offsets_of w = record { off = λ n. (w.node n).off; state = λ n. (w.node n).servo.state }
 
--- the state of this number was at most so long ago
+-- the state of this number was at most this long ago
 pub record WasRecent (at : ℕ) (w : WorldAt) (past : List WorldAt) (time : ℕ) : Type 0 where
   pub state : WorldAt
   pub was : Was (w ∷ past) at state
   pub near : w.time ≤ℤ (state.time +ℤ pos time)
 
--- the chain of a node: its limits, its good samples and its constant; the newest sample, which gave the
--- servo its u; what is true of the pieces of the exchange; and a parent that it may follow
+-- the chain of a node: its limits, its good samples and its constant; the newest sample, which gave the servo its u;
+-- what is true of the pieces of the exchange; and a parent that it may follow
 pub record HopChain (net : NetCfg) (link : LinkCfg) (l : ℕ) (hop : HopNumbers) (w : WorldAt)
     (past : List WorldAt) : Type 0 where
   pub from : ℕ
@@ -84,8 +84,8 @@ pub record HopChain (net : NetCfg) (link : LinkCfg) (l : ℕ) (hop : HopNumbers)
       (w.node link.lower).calls
   pub source : IsSource net (offsets_of w) link.upper
 
--- the same with TRACK: a measurement stands within its limits, its four true of the chain, and its delay
--- by an answer of the law
+-- the same with TRACK: the servo holds a measurement within its limits, its four true of the chain, and its delay by an
+-- answer of the law
 pub record HopTrack (net : NetCfg) (link : LinkCfg) (l : ℕ) (hop : HopNumbers) (w : WorldAt)
     (past : List WorldAt) : Type 0 where
   pub chain : HopChain net link l hop w past

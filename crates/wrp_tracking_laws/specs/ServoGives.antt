@@ -19,13 +19,13 @@ pub record HasLimits (hop : HopNumbers) (set : ServoSet) : Type 0 where
   pub track : set.track_tau ≡ pos hop.track_tau
   pub loop : set.loop_tau ≡ pos hop.loop_tau
 
--- what stands in TRACK: a measurement, by which the loop's error and the residual are within the limits
+-- what holds in TRACK: a measurement, by which the loop's error and the residual are within the limits
 pub record Tracks (hop : HopNumbers) (v : Core) : Type 0 where
   pub kept : Measurement
   pub is : v.kept ≡ Some kept
   pub limits : TrackFacts hop (est_of v.phase.u kept) (e_tau v.phase)
 
--- what the servo's law tells of TRACK gives that, in the hop's numbers
+-- what the servo's law says of TRACK gives this, in the hop's numbers
 abbrev pub TrackGives : Type 0
 TrackGives =
     (hop : HopNumbers) (v : Core) →
@@ -44,21 +44,21 @@ pub record WasMeasured (x : ServoSetting) (calls : List Call) (kept : Measuremen
   pub in_range : is_in x.lo x.hi (x_of deltas kept.four) ≡ true
   pub delay : kept.delay ≡ delay_of deltas answer
 
--- the measurement that stands was brought by such a call
+-- the measurement that the servo holds was brought by such a call
 abbrev pub KeptIsMeasured : Type 0
 KeptIsMeasured =
     (x : ServoSetting) (calls : List Call) (kept : Measurement) →
     (run x calls).kept ≡ Some kept →
     WasMeasured x calls kept
 
--- no measured four is older than the one that stands
+-- no measured four is older than the one that the servo holds
 abbrev pub FoursRise : ServoSetting → List Call → Type 0
 FoursRise x [] = Unit {0}
 FoursRise x (CallMeasured f y ∷ calls) =
     IfSome (run x calls).kept (λ k. k.four.tick ≤ f.tick) × FoursRise x calls
 FoursRise x (call ∷ calls) = FoursRise x calls
 
--- then in TRACK, where a chain and a four stand as the servo's laws tell, that four is young
+-- then in TRACK, if there are a chain and a four as the servo's laws say, that four is young
 abbrev pub TrackIsYoung : Type 0
 TrackIsYoung =
     (x : ServoSetting) (calls : List Call) (kept : Measurement) →

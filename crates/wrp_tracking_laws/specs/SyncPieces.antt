@@ -1,5 +1,5 @@
--- What is true of the Sync half of an exchange, over the list of its calls, the newest first: the pending
--- Sync and the Sync pair tell the chain's constant (this project's profile).
+-- What is true of the Sync half of an exchange, over the list of its calls, the newest first: the pending Sync and the
+-- Sync pair give the chain's constant (this project's profile).
 use Rattle.std.specs.Prelude.{ℕ, ℤ, pos, true, ◌≡◌, ◌<◌, ◌⊎◌, ◌+ℤ◌, ◌-ℤ◌, ◌*ℤ◌, List, [], ◌∷◌, IfSome}
 use Rattle.std.specs.Option.{is_some}
 use Rattle.wrp_base.specs.declared.time.Stamp.{Stamp}
@@ -12,7 +12,7 @@ use Rattle.wrp_exch.specs.SyncHalf.{pending_sync}
 use Rattle.wrp_bounds.specs.declared.numbers.HopNumbers.{HopNumbers}
 use Rattle.wrp_bounds.specs.Hop.{down_error}
 
--- a message that may still come: its sequenceId and the time that it tells
+-- a message that may still come: its sequenceId and the time that it carries
 pub record Told : Type 0 where
   pub seq : ℕ
   pub time : ℤ
@@ -22,12 +22,12 @@ abbrev pub Among : {A : Type 0} → A → List A → Type 0
 Among x [] = ⊥
 Among x (y ∷ ys) = (x ≡ y) ⊎ Among x ys
 
--- a Follow_Up with the correction of its Sync tells this departure
+-- a Follow_Up with the correction of its Sync gives this departure
 abbrev pub TellsDeparture : Told → HeldSync → (t1 : ℤ) → Type 0
 TellsDeparture told s t1 = told.time +ℤ (pos 1000 *ℤ s.correction) ≡ t1
 
--- a held Sync tells the constant with its own departure, and each Follow_Up of its id that may still come
--- tells that departure
+-- a held Sync gives the constant with its own departure, and each Follow_Up of its id that may still come gives that
+-- departure
 pub record HeldTrue (hop : HopNumbers) (constant : ℤ) (may : List Told) (s : HeldSync)
     : Type 0 where
   pub t1 : ℤ
@@ -38,7 +38,7 @@ pub record HeldTrue (hop : HopNumbers) (constant : ℤ) (may : List Told) (s : H
 abbrev pub IsInRing : (ring : ℕ) → List Call → HeldSync → Type 0
 IsInRing ring calls s = is_some (phase_in (last_samples ring calls) s.sample) ≡ true
 
--- the pending Sync, while its sample is in the ring, and the pair tell the constant
+-- the pending Sync, while its sample is in the ring, and the pair give the constant
 pub record SyncHolds (hop : HopNumbers) (constant : ℤ) (may : List Told) (ring : ℕ)
     (calls : List Call) : Type 0 where
   pub pending :
@@ -47,7 +47,7 @@ pub record SyncHolds (hop : HopNumbers) (constant : ℤ) (may : List Told) (ring
       IfSome (sync_pair ring calls)
       (λ p. IsWithin (down_error hop) ((p.t1 -ℤ p.t2) +ℤ p.u2) constant)
 
--- a Sync keeps this, where it is true if it is kept
+-- a Sync keeps this, if it is true when it is kept
 abbrev pub SyncKeeps : Type 0
 SyncKeeps =
     (hop : HopNumbers) (constant : ℤ) (may : List Told) (ring : ℕ) (calls : List Call) (seq : ℕ) →
@@ -65,7 +65,7 @@ FollowUpKeeps =
     SyncHolds hop constant may ring calls →
     SyncHolds hop constant may ring (CallFollowUp seq precise ∷ calls)
 
--- a good sample keeps it, whose number is above that of the pending Sync's
+-- a good sample keeps it, if its number is above the number of the pending Sync's sample
 abbrev pub SampleKeepsSync : Type 0
 SampleKeepsSync =
     (hop : HopNumbers) (constant : ℤ) (may : List Told) (ring : ℕ) (calls : List Call) →

@@ -54,7 +54,7 @@ TicksAtLeast =
     now.ticks ≡ x.ticks + d → 0 < d →
     (x.time +ℤ pos ((d - 1) * dmin)) ≤ℤ now.time
 
--- at most so many ticks since a moment are at most one more times dmax
+-- at most this many ticks since a moment take at most one more than this many times dmax
 abbrev pub WithinTicks : Type 0
 WithinTicks =
     (dmin dmax k most : ℕ) (x now : TickMoment) (past : List TickMoment) →

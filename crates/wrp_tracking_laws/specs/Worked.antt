@@ -18,7 +18,7 @@ worked_moment = record {
   up = pos 551_682_191_712;
 }
 
--- its ports, as the database tells them
+-- its ports, as the database gives them
 abbrev pub worked_deltas : Deltas
 worked_deltas =
     record { txm = 1_000_000_000; rxm = 1_000_000_000; txs = 1_000_000_000; rxs = 1_000_000_000 }

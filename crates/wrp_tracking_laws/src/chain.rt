@@ -11,13 +11,14 @@ pub fn chain_is_kept()
     ensures sample { SampleKeepsChain }
 {}
 
-/// Each Sync and each Delay_Req of the chain tells its constant, a Delay_Req both ways of the link too.
+/// Each Sync and each Delay_Req of the chain gives its constant; a Delay_Req also gives both ways of
+/// the link.
 pub fn stamps_tell_constant()
     ensures sync { SyncTellsConstant }
     ensures delay { DelayTellsWays }
 {}
 
-/// While the chain stands the estimate is near, and in TRACK the node is within the bound of its hop.
+/// While the chain lasts the estimate is near, and in TRACK the node is within the bound of its hop.
 pub fn hop_holds()
     ensures estimate { EstimateHolds }
     ensures track { HopHolds }

@@ -21,7 +21,8 @@ pub fn delay_half_is_kept()
     ensures others { OthersKeepDelay }
 {}
 
-/// The four that an exchange tells is true of the chain, and young where few ticks passed since its own.
+/// The four that an exchange hands over is true of the chain, and young if few ticks passed since its
+/// own.
 pub fn four_tells()
     ensures pieces { FourOfPieces }
     ensures young { FourIsTrue }

@@ -1,5 +1,5 @@
--- A Delay_Resp that a slave's exchange is given tells the arrival of its newest Delay_Req, and so the chain's constant and
--- both ways.
+-- A Delay_Resp that a slave's exchange is given carries the arrival of its newest Delay_Req, and so gives the chain's
+-- constant and both ways.
 use Rattle.std.proofs.Common.{◌≡◌, ◌∙◌, ap, sym, subst, ℕ, ◌*◌, ◌%◌, ◌≤◌, ℤ, pos, ◌+ℤ◌, ◌-ℤ◌, ◌≤ℤ◌, unsigned_abs, true, List, [], ◌∷◌, ◌++◌, length, Some, arith}
 use Rattle.std.proofs.lemmas.Int.{ints}
 use Rattle.std.specs.Prelude.{IfSome}
@@ -110,7 +110,7 @@ pub record Hands (c : Given) (events : List Happened) (h : Happened) (x : Sendin
   pub newest : NewestRequest c.s (h ∷ events) c.k x
   pub seq : frame.sending.message.head.seq ≡ x.message.head.seq
 
--- the master was handed its Delay_Req after these earlier events, at most two frame's lives after that was put out
+-- the master was handed its Delay_Req after these earlier events, at most two frame's lives after it was put out
 record Asks (c : Given) (events : List Happened) (z : Sending) : Type 0 where
   since : List Happened
   handed : List Happened
@@ -162,7 +162,7 @@ asked_newest c events h x j it a =
       young = subst (λ t. t ≤ℤ (y.at +ℤ pos (2 * frame_life c.s.cfg))) (sym (still_deliver c.s h events it.number it.event)) a.young;
     })
 
--- What is told of its arrival
+-- What is reported of its arrival
 
 stamp_told : (receive t : Ts) (requesting source : PortIdentity) → DelayResp receive requesting ≡ DelayResp t source → receive ≡ t
 stamp_told receive t requesting source e = cc
@@ -230,7 +230,7 @@ near_then c events z i a it =
       ranges = arrival_raw s a.handed a.it.number a.it.frame a.it.arrival a.run a.it.there a.it.arrived;
     }))
 
--- the frame of a Delay_Req, the events before its arrival, and the time that is told of it
+-- the frame of a Delay_Req, the events before its arrival, and the time that is reported of the arrival
 record Heard (c : Given) (events : List Happened) (x : Sending) (t4 : ℤ) : Type 0 where
   number : ℕ
   frame : FrameAt

@@ -1,4 +1,4 @@
--- What an exchange keeps of its newest Delay_Req and of its delay pair, call by call, and by what its port is told.
+-- What an exchange keeps of its newest Delay_Req and of its delay pair, call by call, and by what its port is given.
 use Rattle.std.proofs.Common.{◌≡◌, refl, sym, subst, ℕ, ℤ, ◌==◌, ◌&&◌, not, Bool, true, false, if◌then◌else◌, List, ◌∷◌, Option, None, Some}
 use Rattle.std.proofs.lemmas.Bool.{eqb-true}
 use Rattle.std.specs.Option.{option_and_then, option_map, option_or}
@@ -27,7 +27,8 @@ use Rattle.wrp_port.specs.Outputs.{only_slave, piece_unless, with_call}
 use Rattle.wrp_port.specs.Wire.{earlier_by}
 use Rattle.wrp_bound_laws.proofs.Nodes.StepTold.{KeptByNews, KeptByTurns}
 
--- of the newest request's id, with its sending if one was kept, this is so; and that of the pair, if there is one
+-- this holds of the newest request's id, with its sending if one was kept; and of the sending of the pair, if there is
+-- one
 abbrev pub Asked : (R : ℕ → Option Sent → Type 0) (S : DelayPair → Type 0) (ring : ℕ) (calls : List Call) → Type 0
 Asked R S ring calls = IfSome (last_request calls) (λ id. R id (first_sent ring calls)) × IfSome (delay_pair ring calls) S
 
@@ -81,9 +82,9 @@ resp_by R S ring seq t4 calls (Some id) f d fits h k = answered_asked R S seq id
 resp_asked : (R : ℕ → Option Sent → Type 0) (S : DelayPair → Type 0) (ring seq : ℕ) (t4 : ℤ) (calls : List Call) → RespFits R S seq t4 → Asked R S ring calls → Asked R S ring (CallResp seq t4 ∷ calls)
 resp_asked R S ring seq t4 calls fits h = (h.0, resp_by R S ring seq t4 calls (last_request calls) (first_sent ring calls) (delay_pair ring calls) fits h.0 h.1)
 
--- What a port is told
+-- What a port is given
 
--- the exchange of a port that was told this
+-- the exchange of a port that was given this
 abbrev pub AskedOf : (R : ℕ → Option Sent → Type 0) (S : DelayPair → Type 0) (set : Setting) (told : List PortIn) → Type 0
 AskedOf R S set told = Asked R S set.ring (calls_of set told)
 
@@ -147,7 +148,7 @@ pub tick_asked : (R : ℕ → Option Sent → Type 0) (S : DelayPair → Type 0)
 tick_asked R S set told locked certain slave new old pair =
     due_asked R S set.ring (ticked set (rest_after set told) locked).ids.request set.ds.role (requests_on (ticked set (rest_after set told) locked)) (calls_of set told) slave new old pair
 
--- it stands where it follows
+-- it holds where it follows
 pub asked_less : (R Q : ℕ → Option Sent → Type 0) (S T : DelayPair → Type 0) (ring : ℕ) (calls : List Call) → ((id : ℕ) (o : Option Sent) → R id o → Q id o) → ((p : DelayPair) → S p → T p) → Asked R S ring calls → Asked Q T ring calls
 asked_less R Q S T ring calls f g h = (at_last (last_request calls) (first_sent ring calls) h.0, at_pair (delay_pair ring calls) h.1)
   where

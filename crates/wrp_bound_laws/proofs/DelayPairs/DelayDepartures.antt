@@ -1,4 +1,5 @@
--- The sending that a slave's exchange keeps in a chain is that of its newest Delay_Req, with the phase that its stamp latched.
+-- The sending that a slave's exchange keeps in a chain is the sending of its newest Delay_Req, with the phase that its
+-- stamp latched.
 use Rattle.std.proofs.Common.{◌≡◌, ◌∙◌, refl, ap, ap₂, sym, subst, ℕ, ◌+◌, ◌*◌, ◌≤◌, ◌==◌, ℤ, pos, ◌+ℤ◌, ◌-ℤ◌, ◌≤ℤ◌, Bool, true, false, if◌then◌else◌, List, [], ◌∷◌, ◌++◌, length, Option, None, Some, arith}
 use Rattle.std.proofs.lemmas.Int.{ints}
 use Rattle.std.specs.List.{AllByRecursion}
@@ -137,7 +138,7 @@ latched_at c events i u e =
 
 -- The frame of a departure
 
--- a Delay_Req that is the first to wait at the slave's port departs with this stamp, by which this phase is latched
+-- a Delay_Req that is the first to wait at the slave's port departs with this stamp, which latches this phase
 pub record Leaves (c : Given) (h : Happened) (before : List Happened) (stamp : ℤ) (z : Sending) (u : ℤ) : Type 0 where
   pub node : ℕ
   pub port : ℕ
@@ -209,7 +210,7 @@ frame_at_place c h before stamp z u it (Some at) place queue =
 
 -- The sending that is kept
 
--- it is that of this Delay_Req
+-- it is the sending of this Delay_Req
 pub record Departs (c : Given) (x : Sending) (kept : Sent) : Type 0 where
   pub number : ℕ
   pub frame : FrameAt

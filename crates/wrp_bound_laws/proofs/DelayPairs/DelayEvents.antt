@@ -1,4 +1,4 @@
--- What an event tells a port of a node.
+-- What an event gives a port of a node.
 use Rattle.std.proofs.Common.{◌≡◌, ◌∙◌, refl, ap, sym, subst, ℕ, ◌+◌, ◌==◌, ℤ, Bool, true, false, if◌then◌else◌, List, [], ◌∷◌, Option, None, Some, Result, Ok}
 use Rattle.std.specs.Option.{option_map_or}
 use Rattle.arrayvec.specs.ArrayVec.{ArrayVec as Items}
@@ -31,7 +31,7 @@ use Rattle.wrp_bound_laws.proofs.Nodes.StepTold.{Hears, IsTurn, KeptByNews, Kept
 use Rattle.wrp_bound_laws.proofs.Nodes.Inputs.{GivesTo, all_to, node_given, node_given_all, node_kept}
 use Rattle.wrp_bound_laws.proofs.Nodes.StepSends.{IsRequest}
 
--- what an event brings to a port of a node, besides carriers, keeps this
+-- what an event brings to a port of a node, other than carriers, keeps this
 abbrev pub Brings : (P : List PortIn → Type 0) → Setting → WorldAt → Result PtpMsg FrameFault → (n p : ℕ) → Event → Type 0
 Brings P s w says n p (Tick m) = n ≡ m → P (tick_of (node_setting_of s n) (servo_ticked (node_setting_of s n) (w.node n)).node ∷ (servo_ticked (node_setting_of s n) (w.node n)).node.told p)
 Brings P s w says n p (Sample m base bits) =
@@ -136,7 +136,7 @@ noise_event P k s says y w m q octets raw n p brings h =
     node_given (λ (z : NodeAt). P (z.told p)) s y (moved s w (Noise m q octets raw)) g n
     (λ e. frame_told P k (node_setting_of s n) (w.node n) p q says raw (w.clock m).samples y (λ x is same hears. brings x e same is hears) h) h
 
--- what news of the chain, carriers and resets keep, an event that brings nothing else against it keeps
+-- if news of the chain, carriers and resets keep it, and all else that an event brings keeps it, the event keeps it
 pub event_told : (P : List PortIn → Type 0) → KeptByNews P → KeptByTurns P → (s : Setting) (says : Result PtpMsg FrameFault) (y : ℤ) (w : WorldAt) (e : Event) (n p : ℕ) → Brings P s w says n p e → P ((w.node n).told p) →
     P (((world_step s says y w e).node n).told p)
 event_told P k turns s says y w (Tick m) n p brings h = tick_event P k s says y w m n p brings h

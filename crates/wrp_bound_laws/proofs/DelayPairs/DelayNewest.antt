@@ -28,7 +28,7 @@ known_moment s events k r x run put =
     let it : _ = (times_keep s events run.each run.accepted).sent k r x put in
     (subst (λ c. x.moment ≤ c) (count_is s events) it.1, it.0)
 
--- it is so after an event in which no other is put out
+-- it stays the newest after an event in which no other is put out
 abbrev pub NoneNew : Setting → Happened → List Happened → ℕ → Type 0
 NoneNew s h before k = (y : Sending) → IsRequest y.message.body → WasPutOut y ((world_after s (h ∷ before)).end_at k Slave).sent → WasPutOut y ((world_after s before).end_at k Slave).sent
 
@@ -66,7 +66,7 @@ none_due s says y before k link is due z request put =
 at_most_next : (a b c : ℕ) → a ≤ b → c ≡ b + 1 → a ≤ c
 at_most_next a b c h e = omega (arith, h, e)
 
--- and one at which one is
+-- a tick at which one is due
 pub newest_now : EndsAreSet → (s : Setting) (says : Result PtpMsg FrameFault) (y : ℤ) (before : List Happened) (k : ℕ) (link : LinkCfg) → IsRun s (record { event = Tick link.lower; says = says; answer = y } ∷ before) → link_of s k ≡ Some link →
     is_due_then s (world_after s before) Slave link ≡ true →
     NewestRequest s (record { event = Tick link.lower; says = says; answer = y } ∷ before) k (sending (moved s (world_after s before) (Tick link.lower)) (timed_then s (world_after s before) Slave link))

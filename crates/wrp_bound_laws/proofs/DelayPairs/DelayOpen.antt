@@ -15,7 +15,7 @@ use Rattle.wrp_bound_laws.specs.SequenceIds.{IsOpenAt}
 use Rattle.wrp_bound_laws.proofs.Samples.ChainLinks.{chain_on, on_open}
 use Rattle.wrp_bound_laws.proofs.Schedules.OpenPorts.{QuietLaws}
 
--- the laws that this stands on
+-- the laws that this rests on
 pub record OpenLaws : Type 0 where
   pub quiet : QuietLaws
   pub settles : StepSettles

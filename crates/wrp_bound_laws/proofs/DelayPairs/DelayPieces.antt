@@ -1,4 +1,4 @@
--- The Delay_Req that a slave's exchange waits for: whatever departs, or is answered, with its id is that one.
+-- The Delay_Req that a slave's exchange waits for: whatever departs, or is answered, with its id is this Delay_Req.
 use Rattle.std.proofs.Common.{◌≡◌, ◌⊎◌, inl, inr, ◌∙◌, refl, ap, sym, subst, ℕ, suc, ◌+◌, ◌*◌, ◌<◌, ◌≤◌, min, ℤ, pos, ◌+ℤ◌, ◌≤ℤ◌, unsigned_abs, List, [], ◌∷◌, ◌++◌, length, Option, None, Some, option_to_list, arith}
 use Rattle.std.proofs.lemmas.Int.{ints}
 use Rattle.std.specs.List.{AllByRecursion}
@@ -37,7 +37,7 @@ use Rattle.wrp_bound_laws.proofs.Runs.Suffixes.{at_newest}
 use Rattle.wrp_bound_laws.proofs.Frames.TimedTicks.{sent_timed}
 use Rattle.wrp_bound_laws.proofs.Nodes.StepSends.{IsRequest}
 
--- the laws that this stands on
+-- the laws that this rests on
 pub record DelayLaws : Type 0 where
   pub opens : OpenLaws
   pub stamps : StampLaws
@@ -76,7 +76,7 @@ longer_end (x ∷ a) b (y ∷ newer) older e le =
     let it : LongerEnd a b newer older = longer_end a b newer older (tails x y (a ++ b) (newer ++ older) e) le in
     record { between = it.between; is = it.is; first = ap (λ l. y ∷ l) it.first ∙ ap (λ z. z ∷ (a ++ it.between)) (sym (heads x y (a ++ b) (newer ++ older) e)) }
 
--- of the same length they are one
+-- two ends of the same length are one
 pub same_end : {A : Type 0} (a b c d : List A) → a ++ b ≡ c ++ d → length b ≡ length d → b ≡ d
 same_end [] b [] d e n = e
 same_end [] b (y ∷ c) d e n = absurd (same_length (length d) (length (c ++ d)) (length b) (behind c d) (ap length e) n)

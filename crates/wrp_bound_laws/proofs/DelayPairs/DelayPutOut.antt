@@ -1,4 +1,4 @@
--- A link's master puts out a Delay_Resp where it is handed a Delay_Req of the slave, and nowhere else.
+-- A link's master puts out a Delay_Resp when it is handed a Delay_Req of the slave, and at no other time.
 use Rattle.std.proofs.Common.{◌≡◌, ◌⊎◌, inl, inr, ◌∙◌, refl, ap, sym, subst, ℕ, ℤ, List, [], ◌∷◌, ◌++◌, length, map, Option, None, Some, Result, Ok}
 use Rattle.std.specs.List.{AllByRecursion}
 use Rattle.std.specs.Option.{option_map_or}
@@ -43,7 +43,7 @@ use Rattle.wrp_bound_laws.proofs.Nodes.StepSends.{IsRequest}
 
 -- A response is put out
 
--- a message of this sort is put out as one of those, now
+-- a message of this kind is put out as one of those, now
 pub record SentAs (C : PtpMsg → Type 0) (v : WorldAt) (x : Sending) : Type 0 where
   pub is : C x.message
   pub moment : x.moment ≡ v.count

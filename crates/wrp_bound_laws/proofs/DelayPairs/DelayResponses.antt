@@ -1,4 +1,4 @@
--- A port sends a Delay_Resp for a Delay_Req that it takes, with the stamp of that one's reception, and for nothing else.
+-- A port sends a Delay_Resp for a Delay_Req that it takes, with the stamp of its reception, and for nothing else.
 use Rattle.std.proofs.Common.{◌≡◌, refl, ℕ, Bool, List, Result, Ok}
 use Rattle.std.specs.List.{AllByRecursion}
 use Rattle.wrp_base.specs.declared.link.Role.{Role}

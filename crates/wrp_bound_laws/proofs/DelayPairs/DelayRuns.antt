@@ -1,4 +1,4 @@
--- In every run the delay pair that a slave's exchange keeps in a chain tells the chain's constant and both ways.
+-- In every run the delay pair that a slave's exchange keeps in a chain gives the chain's constant and both ways.
 use Rattle.std.proofs.Common.{◌≡◌, inl, inr, ◌∙◌, refl, ap, sym, subst, ℕ, ◌+◌, ℤ, true, is_some, List, [], ◌∷◌, ◌++◌, Option, None, Some, Result}
 use Rattle.std.proofs.lemmas.Bool.Decides.{eqb_tells}
 use Rattle.std.specs.Prelude.{IfSome}
@@ -67,7 +67,7 @@ use Rattle.wrp_bound_laws.proofs.Samples.SampleEvents.{stood_before}
 
 -- What the exchange keeps in a chain
 
--- it waits for the newest Delay_Req of this id; the sending that it keeps is of that one
+-- it waits for the newest Delay_Req of this id; the sending that it keeps is the sending of that Delay_Req
 abbrev pub Waits : Given → List Happened → ℕ → Option Sent → Type 0
 Waits c events id o = (x : Sending) × NewestRequest c.s events c.k x × (x.message.head.seq ≡ id) × IfSome o (Departs c x)
 
@@ -83,7 +83,7 @@ Keeps c events told = AskedOf (Waits c events) (Pairs c) (set_below c) told
 abbrev pub told_at : Given → List Happened → List PortIn
 told_at c events = ((world_after c.s events).node c.link.lower).told c.link.lower_port
 
--- where no Delay_Req is put out it is as it was
+-- if no Delay_Req is put out it is as it was
 kept_still : (c : Given) (h : Happened) (before : List Happened) (told : List PortIn) → NoneNew c.s h before c.k → Keeps c before told → Keeps c (h ∷ before) told
 kept_still c h before told none =
     asked_less (Waits c before) (Waits c (h ∷ before)) (Pairs c) (Pairs c) (set_below c).ring (calls_of (set_below c) told) (λ id o w. (w.0, newest_stays c.s h before c.k w.0 none w.1, w.2, w.3)) (λ p t. t)
@@ -182,7 +182,7 @@ event_keeps c says y e before i j old = elim (tick_or_not c.link.lower e) [
   | inr other ↦ other_keeps c (record { event = e; says = says; answer = y }) before i j other old
 ]
 
--- The event that starts the chain: the exchange begins anew
+-- The event that starts the chain: the exchange begins again
 
 started : (a b : Option ℕ) → (is_some a ≡ true → ⊥) → is_some b ≡ true → (first : ℕ) × (news_of a b ≡ Started first)
 started None (Some n) no_chain stands = (n, refl)

@@ -64,7 +64,7 @@ use Rattle.wrp_bound_laws.proofs.Samples.SampleEvents.{IsNoSampleOf, IsLowOf, lo
 use Rattle.wrp_bound_laws.proofs.Nodes.StepTold.{KeptByNews, KeptByTurns, before_tick, sample_told}
 use Rattle.wrp_bound_laws.proofs.Runs.Suffixes.{at_newest, run_before}
 
--- What a port is told keeps of its exchange's samples
+-- What each input of a port keeps of its exchange's samples
 
 abbrev EachOf : (GoodSample → Type 0) → PortSetting → List PortIn → Type 0
 EachOf B set told = AllByRecursion B (samples (calls_of set told))
@@ -256,14 +256,14 @@ abbrev pub IsHead : List Good → ℤ → Type 0
 IsHead [] u = ⊥
 IsHead (g ∷ gs) u = g.u ≡ u
 
--- the sample of the node's last number, if it is among them, is that one
+-- the sample of the node's last number, if it is among them, is the newest good sample
 abbrev Known : ℕ → List Good → GoodSample → Type 0
 Known count goods g = (g.number ≤ count) × (g.number ≡ count → IsHead goods g.phase)
 
 not_past : (a b : ℕ) → a ≤ b → a ≡ b + 1 → ⊥
 not_past a b h e = omega (arith, h, e)
 
--- its phase as it is noted of the event
+-- its phase as noted of the event
 phase_sampled : PhaseMovesByTags → (s : Setting) (says : Result PtpMsg FrameFault) (y : ℤ) (before : List Happened) (base bits n : ℕ) → is_some (slave_of (s.set n)) ≡ true →
     unwrapped_in s (world_after s (record { event = Sample n base bits; says = says; answer = y } ∷ before)) n ≡ (sampled_core s before n base bits).phase.u
 phase_sampled law s says y before base bits n servo =
@@ -311,7 +311,7 @@ none_good s h before n (Sample m base bits) calm = elim (eqb_tells n m) [
     no_where false o e = refl
 none_good s h before n e calm = refl
 
--- the laws that this stands on
+-- the laws that this rests on
 pub record SampleLaws : Type 0 where
   pub since : ChainSince
   pub moves : PhaseMovesByTags
@@ -371,7 +371,7 @@ chain_known laws s (h ∷ newer) start before k link run_is is stands begins =
     next_known laws s h.says h.answer h.event newer (start ∷ before) k link run_is is (at_newest (HasChain s link.lower) newer (start ∷ before) stands.1)
     (chain_known laws s newer start before k link (run_before s h (newer ++ start ∷ before) run_is) is stands.1 begins)
 
--- The phase that a stamp of now latches
+-- The phase that a stamp latches now
 
 found_by : (goods : List Good) (number : ℕ) (u : ℤ) (x : GoodSample) (xs : List GoodSample) → Known number goods x → (phase_in xs number ≡ Some u → IsHead goods u) → (t : Bool) → (x.number == number) ≡ t → phase_in (x ∷ xs) number ≡ Some u → IsHead goods u
 found_by goods number u x xs known rest true e is = subst (IsHead goods) (same_Some x.phase u (sym (ap (λ b. option_map (λ (s : GoodSample). s.phase) (if b then Some x else find (λ s. s.number == number) xs)) e) ∙ is)) (known.1 (eqb-true x.number number e))
@@ -395,7 +395,7 @@ all_take P zero xs all = tt
 all_take P (suc n) [] all = tt
 all_take P (suc n) (x ∷ xs) all = (all.0, all_take P n xs all.1)
 
--- is that of the chain's newest good sample
+-- it is the phase of the chain's newest good sample
 pub latched_newest : SampleLaws → (s : Setting) (newer : List Happened) (start : Happened) (before : List Happened) (k : ℕ) (link : LinkCfg) (ring : ℕ) (u : ℤ) → IsRun s (newer ++ start ∷ before) → link_of s k ≡ Some link →
     AtEach (HasChain s link.lower) newer (start ∷ before) → (HasChain s link.lower before → ⊥) →
     latched_phase ring (calls_of (set_below s link) (((world_after s (newer ++ start ∷ before)).node link.lower).told link.lower_port)) (count_at s (newer ++ start ∷ before) link.lower) ≡ Some u → IsHead (goods_since s link.lower newer (start ∷ before)) u

@@ -1,4 +1,4 @@
--- A Delay_Resp tells the stamp of a reception: as a Timestamp and a correctionField, and back.
+-- A Delay_Resp carries the stamp of a reception: as a Timestamp and a correctionField, and back.
 use Rattle.std.proofs.Common.{◌≡◌, ◌∙◌, refl, ap, sym, ℕ, zero, suc, pos, negsuc, ◌+◌, ◌-◌, ◌*◌, ◌/◌, ◌%◌, ◌<◌, ◌-ℤ◌, ◌*ℤ◌, min, arith}
 use Rattle.std.proofs.lemmas.Int.{ints}
 use Rattle.std.specs.Int.{saturate_signed, w64}
@@ -28,14 +28,14 @@ sum_back t r v e = omega (arith, ints, e)
 whole_back : (v : ℕ) → v % 1000 ≡ 0 → (v / 65_536_000) * 65_536_000 + 1000 * ((v % 65_536_000) / 1_000) ≡ v
 whole_back v e = omega (arith, e)
 
--- what is told of a whole number of thousands of tau is that number
+-- a whole number of thousands of tau is read back as that number
 pub told_back : (v : ℕ) → v % 1000 ≡ 0 → earlier_by (timestamp_of v) (corrected_by (pos 0) v) ≡ pos v
 told_back v whole =
     ap (λ c. pos (time_of (timestamp_of v)) -ℤ (pos 1000 *ℤ c)) (small_kept (rest_of v) (rest_small v))
     ∙ ap (λ n. pos (n * 65_536_000) -ℤ (pos 1000 *ℤ (pos 0 -ℤ pos (rest_of v)))) (nanos_back (nanoseconds_of v))
     ∙ sum_back (nanoseconds_of v * 65_536_000) (rest_of v) v (whole_back v whole)
 
--- and a merged stamp is one
+-- a merged stamp is such a number
 whole_sum : (a b : ℕ) → (a * 524_288_000 + 32_000 * b) % 1000 ≡ 0
 whole_sum a b = omega arith
 

@@ -1,5 +1,5 @@
--- A slave's newest Delay_Req, what is told of a sending with its sequenceId, and each Delay_Resp of its sequenceId that can still
--- be delivered are of one Delay_Req.
+-- A slave's newest Delay_Req, what is reported of a sending with its sequenceId, and each Delay_Resp of its sequenceId
+-- that can still be delivered are of one Delay_Req.
 use Rattle.std.proofs.Common.{◌≡◌, inl, inr, ◌∙◌, refl, ap, sym, subst, ℕ, ◌+◌, ◌*◌, ◌<◌, ◌≤◌, min, ℤ, pos, ◌+ℤ◌, ◌-ℤ◌, ◌≤ℤ◌, unsigned_abs, List, [], ◌∷◌, ◌++◌, length, Option, None, Some, IfSome, arith}
 use Rattle.std.proofs.lemmas.Int.{ints}
 use Rattle.wrp_base.specs.declared.link.Role.{Role}
@@ -53,7 +53,7 @@ use Rattle.wrp_bound_laws.proofs.Hops.TrackedHops.{has_hop}
 too_soon : (y x : ℤ) (life span more : ℕ) → more + 4 * life < span → (y +ℤ pos span) ≤ℤ x → x ≤ℤ (y +ℤ pos (2 * life)) → ⊥
 too_soon y x life span more room h k = omega (arith, ints, room, h, k)
 
--- a Delay_Req of the slave with the id of its newest one, which was put out at most two frame's lives before that
+-- a Delay_Req of the slave with the id of its newest one, which was put out at most two frame's lives before
 record Alike (s : Setting) (events : List Happened) (k : ℕ) (x y : Sending) : Type 0 where
   put : WasPutOut y ((world_after s events).end_at k Slave).sent
   request : IsTimed Slave y.message.body
@@ -75,7 +75,7 @@ not_before laws s events k link x y run is newest same less a b it =
     too_soon y.at x.at (frame_life s.cfg) (65_000 * min (unsigned_abs s.cfg.sync) (unsigned_abs s.cfg.delay) * shortest_tick s.cfg) (unsigned_abs s.cfg.ring * gap_time s.cfg) run.network.accepted.inequalities.id_reuse
     (laws.late s it.between b.older k link Slave y x run_b is b.in_it.put b.in_it.moment (subst (λ l. WasPutOut x ((world_after s l).end_at k Slave).sent) it.is a.in_it.put) same.request newest.request same.seq still less) same.near
 
--- so it is that one
+-- so it is the newest one
 is_newest : DelayLaws → (s : Setting) (events : List Happened) (k : ℕ) (link : LinkCfg) (x y : Sending) → IsRun s events → link_of s k ≡ Some link → NewestRequest s events k x → Alike s events k x y → y ≡ x
 is_newest laws s events k link x y run is newest same =
     let a : WasPut s events k Slave x = was_put s events k Slave x newest.put in

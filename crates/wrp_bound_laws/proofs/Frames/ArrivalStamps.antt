@@ -99,14 +99,14 @@ tag_room : (s : Setting) (n : ℕ) (o : Option NodeCfg) → IsNetwork s → slic
 tag_room s n None net e = no_error s.cfg.clock
 tag_room s n (Some node) net e = quarter_room s.cfg.clock node.e_tag (net.accepted.ranges.nodes n node e).e_tag.1
 
--- the laws that this stands on
+-- the laws that this rests on
 pub record StampLaws : Type 0 where
   pub merged : MergedWithinTag
   pub stays : ModulesStay
   pub carriers : CarriersAreTheLinks
   pub modules : CarriersWithTheirModules
 
--- an arrival at the end of this role of a frame of the other
+-- an arrival of a frame from the other end at the end of this role
 pub record Arrived (s : Setting) (older : List Happened) (k : ℕ) (r : Role) (f : FrameAt) (raw : Raw) : Type 0 where
   pub link_is : f.link ≡ k
   pub by_is : f.by ≡ other_of r

@@ -22,7 +22,7 @@ use Rattle.wrp_bound_laws.proofs.Frames.InOrder.{Numbered, all_numbered, flies, 
 
 -- A frame later
 
--- it is the same, but that it may arrive, or be gone
+-- it is the same, except that it may arrive, or be gone
 abbrev pub LaterIs : FrameAt → Option FrameAt → Type 0
 LaterIs f None = ⊥
 LaterIs f (Some g) = (g.link ≡ f.link) × (g.by ≡ f.by) × (g.sending ≡ f.sending) × (g.stamp ≡ f.stamp) × (g.moment ≡ f.moment) × (g.at ≡ f.at) × ((a : Arrival) → f.arrival ≡ Some a → g.arrival ≡ Some a)

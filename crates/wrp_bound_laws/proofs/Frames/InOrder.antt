@@ -1,4 +1,4 @@
--- Frames depart, and those of one way of a link arrive, in the order of their numbers.
+-- Frames depart in the order of their numbers, and frames of one way of a link arrive in that order.
 use Rattle.std.proofs.Common.{◌≡◌, ◌∙◌, refl, ap, sym, subst, ℕ, ◌+◌, ◌<◌, ◌≤◌, ◌==◌, ◌&&◌, ◌||◌, nat_lt, ℤ, Bool, true, false, if◌then◌else◌, is_some, List, [], ◌∷◌, Option, None, Some, option_map, Result, arith}
 use Rattle.std.proofs.lemmas.Bool.{eqb-true, false≢true, or_left}
 use Rattle.std.specs.Prelude.{IfSome}
@@ -31,8 +31,8 @@ abbrev pub Numbered : (departed count : ℕ) → ℕ → Option FrameAt → Type
 Numbered departed count i None = Unit {0}
 Numbered departed count i (Some f) = (i ≤ departed) × (f.moment < count) × Past count f.arrival
 
--- and of two frames: the one of the lesser number departed first; and if the other one of the same way arrived, it arrived
--- before, or never does
+-- and of two frames: the one of the lesser number departed first; and if the other one of the same way arrived, it
+-- arrived before, or never does
 abbrev ArrivedBefore : Option Arrival → Bool → ℕ → Type 0
 ArrivedBefore (Some a) gone moment = a.moment < moment
 ArrivedBefore None gone moment = gone ≡ true
@@ -99,7 +99,7 @@ numbered_event s w e i h = numbered_removed s e w.departed w.count i (w.frame i)
 
 -- Two frames in an event
 
--- a frame as it was, but that it may be gone now
+-- a frame as it was, except that it may be gone now
 abbrev with_gone : FrameAt → Bool → FrameAt
 with_gone f gone = record f { gone = gone }
 
@@ -185,7 +185,7 @@ before_now : (o : Option Arrival) (gone : Bool) (count : ℕ) → Past count o �
 before_now (Some a) gone count past h = past
 before_now None gone count past h = h refl
 
--- what came of two frames, by which of them arrives
+-- what happened to two frames, by which of them arrives
 order_arriving : (s : Setting) (w : WorldAt) (m : ℕ) (raw : Raw) (x : FrameAt) (i j : ℕ) (f g : FrameAt) (b c : Bool) → (i == m) ≡ b → (j == m) ≡ c → i < j → (i ≡ m → is_on_fibre (Some f) ≡ true) → (j ≡ m → x ≡ g) → Numbered w.departed w.count i (Some f) →
     InOrder (Some f) (Some g) →
     InOrder

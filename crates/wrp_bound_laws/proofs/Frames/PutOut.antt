@@ -54,7 +54,7 @@ none_given Q s y (g ∷ gs) v k r link x is none to h =
       | inr new ↦ absurd (none v g (to.0 new.0) new.1)
     ]
 
--- an event that gives the node such inputs alone does not put it out
+-- an event that gives the node only such inputs does not put it out
 pub none_put : (Q : Input → Type 0) (s : Setting) (says : Result PtpMsg FrameFault) (y : ℤ) (w : WorldAt) (e : Event) (k : ℕ) (r : Role) (link : LinkCfg) (x : Sending) → link_of s k ≡ Some link → NoneOf Q s y r link x → GivesTo Q (end_of r link).node e →
     WasPutOut x ((world_step s says y w e).end_at k r).sent → WasPutOut x (w.end_at k r).sent
 none_put Q s says y w e k r link x is none to h =

@@ -57,7 +57,7 @@ pub record PutOutIn (s : Setting) (older : List Happened) (k : ℕ) (r : Role) (
   pub moment : x.moment ≡ length older
   pub at : x.at ≡ (world_after s older).time
 
--- a frame that was put out was so in an event of the run
+-- a frame that was put out was put out in an event of the run
 pub record WasPut (s : Setting) (events : List Happened) (k : ℕ) (r : Role) (x : Sending) : Type 0 where
   pub newer : List Happened
   pub older : List Happened
@@ -116,7 +116,7 @@ step_certain : (s : Setting) (y : ℤ) (v : WorldAt) (g : Given) (p : ℕ) (x : 
 step_certain s y v g p x certain new =
     sent_when (MayAnnounce (node_setting_of s g.to) (v.node g.to) g.input) v x ((step_of s y v g).sends p) certain (announces_only (node_setting_of s g.to) (taken_of y g) (v.node g.to) p) new
 
--- it is new by a tick of the master's node in TRACK, or of the grandmaster
+-- it is new in a tick of the master's node in TRACK, or of the grandmaster
 abbrev pub CertainIn : Setting → WorldAt → ℕ → LinkCfg → Event → Sending → Type 0
 CertainIn s w k link e x = WasPutOut x (w.end_at k Master).sent ⊎ ((e ≡ Tick link.upper) × MayAnnounce (node_setting_of s link.upper) (w.node link.upper) TickInput)
 

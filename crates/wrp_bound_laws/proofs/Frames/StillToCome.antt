@@ -1,4 +1,4 @@
--- Which frames can still be delivered: of those that were put out, only such as are no older than a frame's life.
+-- Which frames can still be delivered: of those that were put out, only those that are no older than a frame's life.
 use Rattle.std.proofs.Common.{sym, subst, ◌≤◌, pos, ◌+ℤ◌, ◌≤ℤ◌, List, ◌++◌, length}
 use Rattle.wrp_base.proofs.Integers.{int_le_trans}
 use Rattle.wrp_bounds.specs.Times.{frame_life}

@@ -1,4 +1,4 @@
--- Those messages of an end of a link that are stamped wait, and depart, in the order in which they were put out: each departs once.
+-- Stamped messages of an end of a link wait, and depart, in the order in which they were put out: each departs once.
 use Rattle.std.proofs.Common.{◌≡◌, ◌⊎◌, inl, inr, ◌∙◌, refl, ap, sym, subst, ℕ, ◌+◌, ◌<◌, ◌≤◌, ◌==◌, ◌&&◌, ◌||◌, nat_lt, ℤ, Bool, true, false, if◌then◌else◌, List, [], ◌∷◌, ◌++◌, map, Option, None, Some, option_map, Result, arith}
 use Rattle.std.proofs.lemmas.Bool.{eqb-true}
 use Rattle.std.specs.List.{AllByRecursion}
@@ -121,7 +121,7 @@ due_rising r v [] true m none = (tt, tt)
 due_rising r v [] false m none = tt
 due_rising r v (x ∷ before) due m none = (not_ahead r (sending v x) (map (sending v) (before ++ where_due due m)) none.0, due_rising r v before due m none.1)
 
--- what is new is behind what waited and what departed
+-- what is new comes after what waited and what departed
 record Fits (r : Role) (k : ℕ) (waiting new : List Sending) (frame : ℕ → Option FrameAt) : Type 0 where
   waits : AllByRecursion (λ x. Ahead r x new) waiting
   frames : (i : ℕ) → FrameAhead r k new (frame i)

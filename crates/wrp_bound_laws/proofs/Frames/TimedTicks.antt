@@ -1,4 +1,5 @@
--- The tick of the node at an end of a link: its port sends other messages, and then the one that is stamped where it is due; its port is open then.
+-- The tick of the node at an end of a link: its port sends other messages, and then the one that is stamped if it is
+-- due; its port is open then.
 use Rattle.std.proofs.Common.{◌≡◌, ap, sym, ◌∙◌, ℕ, ℤ, Bool, true, false, List, [], ◌∷◌, ◌++◌, Some, Result, inl, inr, refl, subst, map, pos}
 use Rattle.wrp_base.specs.declared.link.Role.{Role}
 use Rattle.wrp_base.specs.declared.link.Role.TheVariants.{Master, Slave}
@@ -55,13 +56,13 @@ quiet_where fixed n r p (Sent q seq delay stamp) ms none h = h
 quiet_where fixed n r p (Carrier q up own_module) ms none h = h
 quiet_where fixed n r p Reset ms none h = h
 
--- at one that is no tick none is sent that is stamped
+-- at one that is no tick no stamped message is sent
 pub no_tick_where : (fixed : NodeSetting) (t : Taken) (n : NodeAt) (r : Role) (p : ℕ) → IsNoTick t.input → Where NoneSent r ((node_step fixed t n).sends p)
 no_tick_where fixed t n r p none = quiet_where fixed n r p t.input ((node_step fixed t n).sends p) none (step_where fixed t n r p)
 
 -- A tick of a port
 
--- other messages, and then one that is stamped where it is due
+-- other messages, and then one that is stamped if it is due
 pub record SendsOne (r : Role) (sends : List PtpMsg) (due : Bool) (timed : PtpMsg) : Type 0 where
   pub before : List PtpMsg
   pub none : Where NoneSent r before
@@ -88,7 +89,7 @@ tick_sends set Slave line locked certain slave = record {
 
 -- The node in a world
 
--- the port once it was told of lease and chain, and before its own tick
+-- the port after it was given the news of lease and chain, and before its own tick
 abbrev pub port_then : Setting → WorldAt → Role → LinkCfg → List PortIn
 port_then s w r link = (servo_ticked (node_setting_of s (end_of r link).node) (w.node (end_of r link).node)).node.told (end_of r link).port
 
@@ -98,7 +99,7 @@ locked_then s w n = locked_of (node_setting_of s n) (servo_ticked (node_setting_
 abbrev pub certain_then : Setting → WorldAt → ℕ → Bool
 certain_then s w n = certain_of (node_setting_of s n) (servo_ticked (node_setting_of s n) (w.node n)).node
 
--- its line once it ticked, and whether one is due
+-- its line after it ticked, and whether one is due
 abbrev pub line_then : Setting → WorldAt → Role → LinkCfg → Rest
 line_then s w r link = ticked (set_at s r link) (rest_after (set_at s r link) (port_then s w r link)) (locked_then s w (end_of r link).node)
 
@@ -123,7 +124,7 @@ due_put : (v : WorldAt) (r : Role) (sends : List PtpMsg) (due : Bool) (m : PtpMs
 due_put v r sends true m one e = subst (λ l. WasPutOut (sending v m) (map (sending v) l)) (sym one.is) (in_last v (sending v m) one.before (m ∷ []) (inl refl))
 due_put v r sends false m one e = absurd cc
 
--- it is put out where it is due
+-- it is put out if it is due
 pub due_then : EndsAreSet → (s : Setting) → IsNetwork s → (says : Result PtpMsg FrameFault) (y : ℤ) (w : WorldAt) (k : ℕ) (r : Role) (link : LinkCfg) → link_of s k ≡ Some link → is_due_then s w r link ≡ true →
     WasPutOut (sending (moved s w (Tick (end_of r link).node)) (timed_then s w r link)) ((world_step s says y w (Tick (end_of r link).node)).end_at k r).sent
 due_then ends s net says y w k r link is due =

@@ -80,7 +80,7 @@ ports_true s w n fixed before step [] = tt
 ports_true s w n fixed before step (p ∷ ports) =
     all_both s w n (port_out fixed before step p) (flat_map (port_out fixed before step) ports) (port_true s w n fixed before step p) (ports_true s w n fixed before step ports)
 
--- all outputs are true where its report of TRACK is
+-- all outputs are true if its report of TRACK is
 outs_true : (s : Setting) (w : WorldAt) (n : ℕ) (fixed : NodeSetting) (input : Input) (before : NodeAt) (step : Step) → AllTrue s w n (track_out fixed input step.node) → AllTrue s w n (outputs_of fixed input before step)
 outs_true s w n fixed input before step h =
     let old : ServoState = state_of fixed before in
@@ -129,9 +129,9 @@ event_true s says y w e h =
     let v : WorldAt = moved s w e in
     steps_true s (world_step s says y w e) y (given_by s w v says e) v (all_given IsNoTick (given_by s w v says e) (λ n. gives_to IsNoTick s w v says n e (no_tick_to n e (no_tick_of n e h))))
 
--- A node in TRACK that tells an estimate
+-- A node in TRACK that reports an estimate
 
--- the laws that this stands on
+-- the laws that this rests on
 pub record ReportLaws : Type 0 where
   pub bounds : OffsetsKeepBounds
   pub estimates : EstimatesAreNear

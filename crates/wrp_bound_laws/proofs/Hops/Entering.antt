@@ -1,4 +1,4 @@
--- A node comes to HOLDOVER from TRACK alone: the message that makes a measurement tells of neither the lease nor the link.
+-- A node enters HOLDOVER only from TRACK: the message that makes a measurement changes neither the lease nor the link.
 use Rattle.std.proofs.Common.{◌≡◌, inl, inr, ◌∙◌, refl, ap, sym, subst, ℕ, ◌<◌, ◌==◌, ℤ, ◌&&◌, ◌||◌, not, Bool, true, false, if◌then◌else◌, is_some, List, [], ◌∷◌, Option, None, Some, Result, Ok, Err}
 use Rattle.std.proofs.lemmas.Bool.{eqb-true, cases_Bool, false≢true}
 use Rattle.std.proofs.lemmas.Bool.Decides.{eqb_tells}
@@ -67,7 +67,7 @@ use Rattle.wrp_bound_laws.proofs.Motion.OnTime.{IsStill, was_up}
 use Rattle.wrp_bound_laws.proofs.Sources.Parents.{has_servo, has_slave, with_servo, state_holdover}
 use Rattle.wrp_bound_laws.proofs.Nodes.StepCalls.{Brings, IsTelling, KeptBy, settled_keeps, step_keeps}
 
--- What the servo answers is nothing to the lease and to the link
+-- What the servo answers changes neither the lease nor the link
 
 -- The message of a measurement
 
@@ -128,7 +128,7 @@ node_deltas fixed n q m stamp tick (Some p) e =
     ap (λ (l : LinkAt). deltas_of (port_of fixed.set p).role l)
     (link_used (p == q) (setting_of fixed.set p) (n.told p) m stamp tick (λ same. subst (λ i. link_input (setting_of fixed.set i).ds.role m.body ≡ None) (sym (eqb-true p q same)) e))
 
--- So nothing else is told
+-- So the servo is given nothing else
 
 -- the servo knows of the lease and of the link
 pub record Knows (fixed : NodeSetting) (n : NodeAt) : Type 0 where
@@ -209,7 +209,7 @@ plain_out : HoldLaws → (fixed : NodeSetting) → Lasts fixed → (t : Taken) (
 plain_out laws fixed some t m h out =
     step_keeps IsNoMeasure (λ calls. IsOut (run (servo_setting_of fixed) calls)) (λ calls c ok k. out_stays laws (servo_setting_of fixed) some calls c ok k) (telling_out laws fixed some) fixed t m (brings_none t.input h) out
 
--- by a frame it may come to TRACK, but not to HOLDOVER
+-- a frame may bring it to TRACK, but not to HOLDOVER
 abbrev NotHeld : NodeSetting → NodeAt → Type 0
 NotHeld fixed m = is_holdover (run (servo_setting_of fixed) m.calls).state ≡ true → ⊥
 
@@ -328,7 +328,7 @@ from_down laws s says y w e n some servo down up = absurd (false≢true (sym dow
 
 -- Each event
 
--- the event that brings a node to HOLDOVER is none in which time passes, nor its start
+-- in the event that brings a node to HOLDOVER no time passes, and the node does not start
 at_once : (s : Setting) (says : Result PtpMsg FrameFault) (y : ℤ) (before : List Happened) (e : Event) (n : ℕ) → IsRun s (record { event = e; says = says; answer = y } ∷ before) → ((world_after s before).clock n).up ≡ true →
     IsHeld s n (record { event = e; says = says; answer = y } ∷ before) → (IsHeld s n before → ⊥) → IsAtOnce n e
 at_once s says y before (Pass dt drifts fibres) n run up held none = none (record { up = up; state = held.state })

@@ -49,7 +49,7 @@ use Rattle.wrp_bound_laws.proofs.Motion.Slow.{as_slow}
 use Rattle.wrp_bound_laws.proofs.Nodes.StepCalls.{IsCalm, IsTelling, calls_kept, told_tick}
 use Rattle.wrp_bound_laws.proofs.Runs.Suffixes.{run_before}
 
--- the laws that this stands on
+-- the laws that this rests on
 pub record HeldLaws : Type 0 where
   pub holds : HoldLaws
   pub apart : TicksAreApart
@@ -82,7 +82,7 @@ since_when laws s events n link net above h =
 
 -- Events
 
--- by which it neither ticks nor starts
+-- in which it neither ticks nor starts
 pub calm_on : HeldLaws → (s : Setting) (h : Happened) (before : List Happened) (n t : ℕ) → IsCalmOf n h.event → OnHold (core_at s before n) t → OnHold (core_at s (h ∷ before) n) t
 calm_on laws s h before n t calm hold =
     node_kept (λ (m : NodeAt). OnHold (run (servo_setting_of (node_setting_of s n)) m.calls) t) IsCalm s h.says h.answer (world_after s before) h.event n

@@ -1,4 +1,4 @@
--- A node in HOLDOVER came to it from within its path, took no step since, and ticked fewer times than HOLDOVER lasts.
+-- A node in HOLDOVER entered it from within its path, took no step since, and ticked fewer times than HOLDOVER lasts.
 use Rattle.std.proofs.Common.{◌≡◌, inl, inr, ◌∙◌, ap, sym, subst, ℕ, ◌+◌, ◌<◌, ◌≤◌, ℤ, ◌||◌, not, unsigned_abs, false, List, [], ◌∷◌, ◌++◌, Some, Result, arith}
 use Rattle.std.proofs.lemmas.Bool.Decides.{eqb_tells}
 use Rattle.wrp_base.specs.declared.link.ServoState.TheVariants.{Holdover}
@@ -33,7 +33,7 @@ use Rattle.wrp_bound_laws.proofs.Sources.Parents.{IsCalmOf, state_holdover, tick
 use Rattle.wrp_bound_laws.proofs.Runs.Suffixes.{at_newest, run_before}
 use Rattle.wrp_bound_laws.proofs.Motion.TickSteps.{calm_ticks}
 
--- the laws that this stands on
+-- the laws that this rests on
 pub record PathLaws : Type 0 where
   pub held : HeldLaws
   pub counted : TicksAreCounted
@@ -57,7 +57,7 @@ held_steps laws s (h ∷ newer) older n link net above held =
 
 -- Ticks
 
--- so many since its start is at most those at the beginning and those of HOLDOVER
+-- its ticks since its start are at most those at the beginning plus those of HOLDOVER
 abbrev IsCounted : Setting → List Happened → (n start t : ℕ) → Type 0
 IsCounted s events n start t = ((world_after s events).node n).ticks ≤ start + t
 

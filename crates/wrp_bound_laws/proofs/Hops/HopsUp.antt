@@ -1,4 +1,4 @@
--- What each hop of a run keeps, where a node that is down shows no state: so the bounds of its nodes that are up.
+-- What each hop of a run keeps, with no state shown for a node that is down: so the bounds of its nodes that are up.
 use Rattle.std.proofs.Common.{◌≡◌, inl, inr, ◌∙◌, ℤ, pos, ◌-ℤ◌, refl, ap, sym, subst, ℕ, zero, suc, ◌+◌, ◌<◌, ◌≤◌, unsigned_abs, Bool, true, false, if◌then◌else◌, is_some, List, [], ◌∷◌, ◌++◌, length, Option, None, Some, option_map, arith}
 use Rattle.std.proofs.lemmas.Int.{ints}
 use Rattle.std.specs.Option.{option_map_or}
@@ -45,7 +45,7 @@ pub record FollowLaws : Type 0 where
   pub source : ChainHasSource
   pub top : TopIsTrue
 
--- the laws that this stands on
+-- the laws that this rests on
 pub record HopLaws : Type 0 where
   pub follow : FollowLaws
   pub short : HoldoverIsShort
@@ -55,7 +55,8 @@ pub record HopLaws : Type 0 where
 
 -- What the nodes show
 
--- the offset of each node, and the state of its servo where it is up: a node that is down keeps the one in which it stopped
+-- the offset of each node, and the state of its servo if it is up: a node that is down keeps the state in which it
+-- stopped
 abbrev pub offsets_up : Setting → WorldAt → Offsets
 offsets_up s w = record { off = λ n. (w.clock n).off; state = λ n. if (w.clock n).up then state_of (node_setting_of s n) (w.node n) else Uninit }
 
@@ -101,7 +102,7 @@ source_up s w n up (inl top) = inl top
 source_up s w n up (inr (inl track)) = inr (inl (state_up s w n up ∙ track))
 source_up s w n up (inr (inr held)) = inr (inr (state_up s w n up ∙ held))
 
--- its bound is the hop's
+-- its bound is the bound of the hop
 hop_is : (s : Setting) (n : ℕ) (hop : HopNumbers) → numbers_of s.cfg n ≡ Some hop → hop_of s.cfg n ≡ hop_bound hop
 hop_is s n hop is = ap (λ (o : Option HopNumbers). option_map_or hop_bound o 0) is
 
@@ -138,7 +139,7 @@ inside_below s net n link above =
     let at : (k : ℕ) × (link_of s k ≡ Some link) × (link.lower ≡ n) = above_at s n link above in
     subst (λ i. i < node_count s.cfg) at.2 (net.accepted.tree.ends at.0 link at.1).1
 
--- from where it was when it came to it
+-- from where it was when it entered HOLDOVER
 held_from : HopLaws → (s : Setting) (events : List Happened) (n : ℕ) (link : LinkCfg) → IsNetwork s → link_above s.cfg n ≡ Some link → (since : HeldSince s n events) → unsigned_abs ((world_after s (since.entry ∷ since.before)).clock n).off ≤ path_of s.cfg n →
     unsigned_abs ((world_after s events).clock n).off ≤ holdover_of s.cfg n
 held_from laws s events n link net above since within =

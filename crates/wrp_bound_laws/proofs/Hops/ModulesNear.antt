@@ -1,4 +1,4 @@
--- The true delays of the module in place at an end of a link are within the error of its entry, where it is listed, in
+-- The true delays of the module in place at an end of a link are within the error of its entry, if it is listed, in
 -- every run.
 use Rattle.std.proofs.Common.{◌≡◌, ◌∙◌, refl, ap, ap₂, sym, subst, ℕ, ◌≤◌, ◌==◌, ℤ, pos, ◌-ℤ◌, unsigned_abs, not, Bool, true, false, cond, if◌then◌else◌, is_some, List, [], ◌∷◌, ◌++◌, map, flat_map, Option, None, Some, IfSome, option_map, Result, arith}
 use Rattle.arrayvec.specs.ArrayVec.{ArrayVec as Items}
@@ -37,7 +37,7 @@ pub record HasDelays (entry : Module) (tx rx : ℕ) : Type 0 where
   pub sends : IsWithin entry.err (pos tx) (pos entry.tx)
   pub receives : IsWithin entry.err (pos rx) (pos entry.rx)
 
--- and those of the module at an end of a link, where it is listed there
+-- and the true delays of the module at an end of a link, if it is listed there
 abbrev pub IsNear : Setting → ℕ → Role → EndAt → Type 0
 IsNear s k r e = IfSome (entry_at s k r e.name) (λ m. HasDelays m e.tx e.rx)
 
@@ -90,7 +90,7 @@ near_entry swap (Some entry) h = record {
   receives = check_says (unsigned_abs (pos swap.rx -ℤ pos entry.rx)) entry.err h.1.0;
 }
 
--- its port is at that end alone
+-- its port is only at that end
 near_place : (s : Setting) → IsNetwork s → (n k : ℕ) (r : Role) (swap : Swap) (o : Option Place) → end_at s k r ≡ Some (end_with n swap.port) → place_of s n swap.port ≡ o → not (is_some o) ≡ false →
     AllHold (module_checks swap (entry_for s swap o)) → SwapIsNear s k r swap
 near_place s net n k r swap None there at is h = absurd (true≢false is)
@@ -110,7 +110,7 @@ swapped_near : (s : Setting) (k : ℕ) (r : Role) (e : EndAt) (o : Option Swap) 
 swapped_near s k r e None h near = h
 swapped_near s k r e (Some swap) h near = near swap refl
 
--- where a node comes up, whose end it is or not
+-- when a node comes up, whether the end is the node's or not
 up_near : (s : Setting) (k p : ℕ) (r : Role) (swaps : List Swap) (e : EndAt) (b : Bool) → IsNear s k r e → ((swap : Swap) → b ≡ true → swap_at p swaps ≡ Some swap → SwapIsNear s k r swap) →
     IsNear s k r (if b then with_swap (swap_at p swaps) e else e)
 up_near s k p r swaps e true h near = swapped_near s k r e (swap_at p swaps) h (λ swap is. near swap refl is)
@@ -134,7 +134,7 @@ up_checked s w says n off swaps a =
 
 -- Each event
 
--- what an Up makes of an end, where the end is known
+-- what an Up does to an end, if the end is known
 abbrev end_up : (n : ℕ) (swaps : List Swap) (e : EndAt) → Option End → EndAt
 end_up n swaps e o = if is_of n o then with_swap (swap_at (option_map_or (λ (x : End). x.port) o 0) swaps) e else e
 

@@ -1,4 +1,4 @@
--- While a link is on, the delays by which its slave reckons are near the true ones, and its fibre keeps its share.
+-- While a link is on, the delays with which its slave computes are near the true ones, and its fibre keeps its share.
 use Rattle.std.proofs.Common.{◌≡◌, ◌∙◌, refl, ap, ap₂, sym, subst, ℕ, ◌*◌, ◌^◌, ◌≤◌, ℤ, pos, ◌+ℤ◌, ◌-ℤ◌, ◌*ℤ◌, unsigned_abs, Bool, true, false, Option, None, Some, IfSome, slice_get, arith}
 use Rattle.std.proofs.Math.IntN.{*ℤ_comm}
 use Rattle.std.specs.Prelude.{option_and_then}

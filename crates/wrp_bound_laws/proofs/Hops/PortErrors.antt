@@ -1,4 +1,4 @@
--- The error of a listed module at an end of a link is at most that of the link's database.
+-- The error of a listed module at an end of a link is at most the error of the link's database.
 use Rattle.std.proofs.Common.{◌≡◌, ◌∙◌, refl, ap, sym, subst, ℕ, zero, suc, ◌≤◌, max, fold, List, [], ◌∷◌, map, Option, None, Some, slice_get, arith}
 use Rattle.std.specs.List.{find}
 use Rattle.std.specs.Prelude.{option_and_then}
@@ -36,7 +36,7 @@ at_most_greatest f (y ∷ xs) a (suc i) x e = at_most_greatest f xs (max a (f y)
 
 -- A listed module
 
--- the numbers are those of a module of the database for this pair of wavelengths
+-- the numbers are the numbers of a module of the database for this pair of wavelengths
 record IsListed (db : Database) (tx rx : ℕ) (entry : Module) : Type 0 where
   which : ModuleAt
   place : ℕ

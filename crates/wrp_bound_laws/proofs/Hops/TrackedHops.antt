@@ -1,4 +1,4 @@
--- In TRACK what a hop's bound rests on stands: a chain with its constant, a four that is true of it, and the fibre.
+-- In TRACK there is what a hop's bound rests on: a chain with its constant, a four that is true of it, and the fibre.
 use Rattle.std.proofs.Common.{◌≡◌, ◌∙◌, refl, ap, sym, subst, ℕ, zero, suc, ◌<◌, ℤ, pos, ◌-ℤ◌, ◌≤ℤ◌, unsigned_abs, true, false, is_some, List, [], ◌∷◌, length, Option, None, Some, option_map, arith}
 use Rattle.std.proofs.lemmas.Int.{ints}
 use Rattle.std.specs.Prelude.{option_and_then, slice_get}
@@ -43,7 +43,7 @@ use Rattle.wrp_bound_laws.proofs.Hops.HeldRuns.{core_at}
 use Rattle.wrp_bound_laws.proofs.Runs.LinksAbove.{above_at, above_is}
 use Rattle.wrp_bound_laws.proofs.Sources.Parents.{has_servo, with_servo}
 
--- the laws that this stands on
+-- the laws that this rests on
 pub record TrackLaws : Type 0 where
   pub constant : ChainHasConstant
   pub four : FourHoldsInTrack
@@ -62,7 +62,7 @@ node_at [] n h = absurd (omega (arith, h))
 node_at (node ∷ nodes) zero h = (node, refl)
 node_at (node ∷ nodes) (suc n) h = node_at nodes n (omega (arith, h))
 
--- below a link they are those of its two ends
+-- below a link they are the numbers of its two ends
 numbers_are : (s : Setting) → IsNetwork s → (n : ℕ) (link : LinkCfg) → link_above s.cfg n ≡ Some link →
     (own : NodeCfg) × (parent : NodeCfg) × (numbers_of s.cfg n ≡ numbers_between s.cfg link (Some own) (Some parent))
 numbers_are s net n link above =
@@ -102,7 +102,7 @@ track_core s events n link net above e = sym (with_servo (node_setting_of s n) (
 pub track_chain : TrackHasChain → (s : Setting) (events : List Happened) (n : ℕ) → (core_at s events n).state ≡ Track → HasChain s n events
 track_chain law s events n e = law (servo_setting_of (node_setting_of s n)) ((world_after s events).node n).calls (ap is_track e)
 
--- what stands of its hop: the measurement of its servo, with the deltas and the answer by which its delay was reckoned
+-- what holds of its hop: the measurement of its servo, with the deltas and the answer from which its delay was computed
 pub record TrackStands (s : Setting) (events : List Happened) (k : ℕ) (link : LinkCfg) (hop : HopNumbers) : Type 0 where
   pub kept : Measurement
   pub is : (core_at s events link.lower).kept ≡ Some kept
@@ -152,7 +152,7 @@ track_stands laws s (h ∷ before) k link hop runs is numbers e =
       limits = tracks.limits;
     }
 
--- the estimate by the measurement's delay is that by the deltas and the answer
+-- the estimate by the measurement's delay is the estimate by the deltas and the answer
 same_estimate : (P : ℤ → Type 0) (u : ℤ) (kept : Measurement) (deltas : Deltas) (answer : ℤ) → kept.delay ≡ delay_of deltas answer → P (estimate_of deltas kept.four answer u) → P (est_of u kept)
 same_estimate P u kept deltas answer e h = subst (λ d. P (est_of u (record { four = kept.four; delay = d }))) (sym e) h
 

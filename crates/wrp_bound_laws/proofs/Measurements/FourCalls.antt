@@ -1,4 +1,4 @@
--- The measurement that stands in a servo, call by call: with it a chain stands, and only a measurement brings it; and the
+-- The measurement that a servo holds, call by call: with it there is a chain, and only a measurement brings it; and the
 -- settings stay.
 use Rattle.std.proofs.Common.{◌≡◌, ◌⊎◌, inl, inr, ◌∙◌, refl, ap, sym, subst, ℕ, ◌-◌, ℤ, ◌&&◌, cond, Bool, true, false, is_some, List, [], ◌∷◌, Option, None, Some}
 use Rattle.std.specs.Prelude.{int_le, nat_le}
@@ -26,7 +26,7 @@ use Rattle.wrp_bound_laws.proofs.Samples.LiveChains.{IsNoSample}
 use Rattle.wrp_bound_laws.proofs.Motion.NodeSteps.{Stands}
 use Rattle.wrp_bound_laws.proofs.Nodes.TrackedSets.{ended_in_set}
 
--- no measurement stands, or this one does, and with it a chain
+-- no measurement is held, or this one is, and with it there is a chain
 abbrev Keeps : Option Measurement → Core → Type 0
 Keeps o w = (w.kept ≡ None) ⊎ ((w.kept ≡ o) × Stands w)
 
@@ -150,7 +150,7 @@ chain_of : (v : Core) (first : Option ℕ) (d : Deltas) → v.first ≡ first �
 chain_of v (Some n) d e h = ap is_some e
 chain_of v None d e h = absurd (none-some d (sym (ap (λ o. measuring.deltas_in_chain (record v { first = o })) e) ∙ h))
 
--- it keeps the one that stands, or brings its own
+-- it keeps the one that is held, or brings its own
 abbrev Measures : ServoSetting → ServoSet → Core → Four → ℤ → Core → Type 0
 Measures x set v f y w = (o : Option Measurement) × Leaves set o w × ((v.kept ≡ o) ⊎ IsBrought x v f y o)
 
@@ -200,7 +200,7 @@ call_leaves x set o v (CallLink on) c h = link_leaves set o v on h
 call_leaves x set o v (CallCarrier up) c h = carrier_leaves set o v up h
 call_leaves x set o v CallReset c h = (h.0, inl refl)
 
--- what is left is what stands
+-- what is left is what is held
 left : (set : ServoSet) (o : Option Measurement) (w : Core) → Leaves set o w → Leaves set w.kept w
 left set o w (same, inl none) = (same, inl none)
 left set o w (same, inr it) = (same, inr (refl, it.1))
@@ -229,7 +229,7 @@ each_leaves x (c ∷ calls) =
           subst (λ (d : Call). Leaves x.set (after x v d).kept (after x v d)) (sym it.2) (left x.set m.0 (run x (CallMeasured it.0 it.1 ∷ calls)) m.1)
     ]
 
--- where a measurement stands, a chain does
+-- with a measurement there is a chain
 stood : (v : Core) (k : Measurement) (o : Option Measurement) → Keeps o v → v.kept ≡ Some k → Stands v
 stood v k o (inl none) is = absurd (none-some k (sym none ∙ is))
 stood v k o (inr it) is = it.1
@@ -254,7 +254,7 @@ pub record Brings (x : ServoSetting) (calls : List Call) (f : Four) (y : ℤ) (k
   pub in_range : measuring.is_in x.lo x.hi (measuring.x_of deltas f) ≡ true
   pub is : k ≡ measuring.kept_of f deltas y
 
--- a measurement keeps the one that stands, or brings its own
+-- a measurement keeps the one that is held, or brings its own
 pub measured_before : (x : ServoSetting) (calls : List Call) (f : Four) (y : ℤ) (k : Measurement) → (run x (CallMeasured f y ∷ calls)).kept ≡ Some k → ((run x calls).kept ≡ Some k) ⊎ Brings x calls f y k
 measured_before x calls f y k is =
     let m : Measures x x.set (run x calls) f y (run x (CallMeasured f y ∷ calls)) = measured_at x calls f y (each_leaves x calls) in
@@ -268,7 +268,7 @@ measured_before x calls f y k is =
 pub brought_in_chain : (x : ServoSetting) (calls : List Call) (f : Four) (y : ℤ) (k : Measurement) → Brings x calls f y k → Stands (run x calls)
 brought_in_chain x calls f y k b = chain_of (run x calls) (run x calls).first b.deltas refl b.in_chain
 
--- What the servo answers where its chain goes on
+-- What the servo answers if its chain goes on
 
 pub same_news : (a b : Option ℕ) → is_some a ≡ true → is_some b ≡ true → news_of a b ≡ Same
 same_news (Some m) (Some n) e f = refl

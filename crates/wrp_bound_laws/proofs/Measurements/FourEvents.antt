@@ -1,4 +1,4 @@
--- The measurement that stands in a node was brought in an event of the run, since which it stands: it is of all pieces that the
+-- The measurement that a node holds was brought in an event of the run, and is held since: it is of all pieces that the
 -- port's exchange was given up to then.
 use Rattle.std.proofs.Common.{◌≡◌, inl, inr, ◌∙◌, refl, ap, sym, subst, ℕ, ℤ, List, [], ◌∷◌, ◌++◌, Option, None, Some, Result}
 use Rattle.std.specs.Option.{option_map_or}
@@ -41,7 +41,7 @@ only_below s net k link is q role =
     slave_alone s.cfg link.lower link.lower_port q net.accepted.tree (sym (ap (λ (x : NodeSet). slave_of x) (net.set link.lower)) ∙ slave_at s net k link is)
     (sym (ap (λ (x : NodeSet). (port_of x q).role) (net.set link.lower)) ∙ role)
 
--- An event that gives a node one input at most
+-- An event that gives a node at most one input
 
 abbrev IsFew : List Given → Type 0
 IsFew [] = Unit {0}
@@ -100,7 +100,7 @@ event_new s says y w e n p slave only = unframed s says y w e n p tt
 
 -- Over a run
 
--- the measurement stands since an event, and is of all pieces that were given up to then
+-- the measurement is held since an event, and is of all pieces that were given up to then
 pub record KeptFrom (s : Setting) (events : List Happened) (link : LinkCfg) (kept : Measurement) : Type 0 where
   pub since : List Happened
   pub earlier : List Happened

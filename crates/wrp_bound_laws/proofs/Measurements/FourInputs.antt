@@ -1,4 +1,5 @@
--- An input of a node leaves the measurement that stands, or it is a frame that brings one: the four of all pieces of its port.
+-- An input of a node leaves the measurement that is held, or it is a frame that brings one: the four of all pieces of
+-- its port.
 use Rattle.std.proofs.Common.{◌≡◌, ◌⊎◌, inl, inr, ◌∙◌, refl, ap, sym, subst, ℕ, ℤ, ◌==◌, Bool, true, false, if◌then◌else◌, is_some, List, ◌∷◌, Option, None, Some, Result, Ok, Err}
 use Rattle.wrp_base.specs.declared.link.Deltas.{Deltas}
 use Rattle.wrp_base.specs.declared.measurement.Four.{Four}
@@ -29,12 +30,12 @@ use Rattle.wrp_bound_laws.proofs.Sources.HeldCalls.{IsNoMeasure}
 use Rattle.wrp_bound_laws.proofs.Samples.LiveChains.{IsNoSample, telling_less}
 use Rattle.wrp_bound_laws.proofs.Nodes.StepCalls.{Brings as BringsCalls, KeptBy, step_keeps}
 
--- a measurement that stands is the one of before, or of all that the port's exchange was given
+-- the measurement that is held is the one from before, or is of all that the port's exchange was given
 abbrev IsNew : NodeSetting → ℕ → Option Measurement → ℕ → List PortIn → List Call → Type 0
 IsNew fixed p old ticks told calls =
     (k : Measurement) → (run (servo_setting_of fixed) calls).kept ≡ Some k → (old ≡ Some k) ⊎ (four_of fixed.set.ring (calls_of (setting_of fixed.set p) told) ≡ Some k.four)
 
--- What is told after an input
+-- What is given after an input
 
 telling_new : (fixed : NodeSetting) (p : ℕ) (old : Option Measurement) (ticks : ℕ) (told : List PortIn) (calls : List Call) (c : Call) → IsNoMeasure c → IsNoSample c → IsNew fixed p old ticks told calls →
     IsNew fixed p old ticks (answered fixed told calls c) (c ∷ calls)
@@ -105,7 +106,7 @@ brings_none (Sent q seq delay stamp) h = tt
 brings_none (Carrier q up own_module) h = tt
 brings_none Reset h = tt
 
--- the measurement that stands stood before
+-- the measurement that is held was held before
 abbrev Stood : ServoSetting → Option Measurement → List Call → Type 0
 Stood x old calls = (k : Measurement) → (run x calls).kept ≡ Some k → old ≡ Some k
 
@@ -120,7 +121,7 @@ other_stood fixed old t n none h =
 
 -- Any input
 
--- what stands after it stood before it, or is of all pieces of the port
+-- what is held after it was held before it, or is of all pieces of the port
 abbrev pub StoodOrNew : NodeSetting → ℕ → (before after : NodeAt) → Type 0
 StoodOrNew fixed p before after =
     (k : Measurement) → (servo_at fixed after).kept ≡ Some k → ((servo_at fixed before).kept ≡ Some k) ⊎ (four_of fixed.set.ring (pieces_at fixed.set after p) ≡ Some k.four)

@@ -19,7 +19,7 @@ more_than_none n h = omega (arith, h)
 one_less : (n : ℕ) → suc n ≤ 1 → n ≤ 0
 one_less n h = omega (arith, h)
 
--- where none passes, none that is found does
+-- if none passes, none that is found does
 no_pass_where : {A : Type 0} (t u : A → Bool) (x y : A) (xs : List A) (c d : Bool) → t x ≡ c → length (if c then x ∷ filter t xs else filter t xs) ≤ 0 → (if d then Some x else find u xs) ≡ Some y → t y ≡ true →
     (length (filter t xs) ≤ 0 → find u xs ≡ Some y → ⊥) → ⊥
 no_pass_where t u x y xs true d is few e p rest = more_than_none (length (filter t xs)) few
@@ -30,7 +30,7 @@ no_pass : {A : Type 0} (t u : A → Bool) (y : A) (xs : List A) → length (filt
 no_pass t u y [] few e p = none-some y e
 no_pass t u y (x ∷ xs) few e p = no_pass_where t u x y xs (t x) (u x) refl few e p (λ less f. no_pass t u y xs less f p)
 
--- where at most one passes, one that passes is the first that does
+-- if at most one passes, one that passes is the first that does
 only_pass_where : {A : Type 0} (t u : A → Bool) (x y z : A) (xs : List A) (c d : Bool) → t x ≡ c → length (if c then x ∷ filter t xs else filter t xs) ≤ 1 → (if c then Some x else find t xs) ≡ Some y → (if d then Some x else find u xs) ≡ Some z → t z ≡ true →
     (length (filter t xs) ≤ 1 → find t xs ≡ Some y → find u xs ≡ Some z → y ≡ z) → y ≡ z
 only_pass_where t u x y z xs true true is few e f p rest = same_Some y z (sym e ∙ f)

@@ -1,4 +1,5 @@
--- No four that a node measures is older than the one that stands: the ticks that its port tells its exchange never fall.
+-- No four that a node measures is older than the one that it holds: the ticks that its port gives its exchange never
+-- fall.
 use Rattle.std.proofs.Common.{◌≡◌, inl, inr, ◌∙◌, refl, ap, sym, subst, ℕ, ◌+◌, ◌≤◌, ℤ, ◌&&◌, Bool, true, false, if◌then◌else◌, List, [], ◌∷◌, ◌++◌, Option, None, Some, arith}
 use Rattle.std.specs.Prelude.{IfSome}
 use Rattle.std.proofs.lemmas.Option.{none-some}
@@ -41,14 +42,15 @@ use Rattle.wrp_bound_laws.proofs.Sources.HeldCalls.{IsNoMeasure}
 
 -- The pieces that the exchange of a port was given
 
--- a measurement that stands was made when these were given, or fewer
+-- the measurement that is held was made when these were given, or fewer
 pub record IsOf (ring : ℕ) (pieces : List ExchangeCall) (k : Measurement) : Type 0 where
   pub since : List ExchangeCall
   pub before : List ExchangeCall
   pub splits : pieces ≡ since ++ before
   pub four : four_of ring before ≡ Some k.four
 
--- they tell no tick after this one, and none before one that was told; and the measurement that stands is of some of them
+-- they give no tick after this one, and none before one that was given; and the measurement that is held is of some of
+-- them
 pub record Rise (ring ticks : ℕ) (pieces : List ExchangeCall) (kept : Option Measurement) : Type 0 where
   pub last : NoneAfter ticks pieces
   pub rise : TicksRise pieces
@@ -57,7 +59,7 @@ pub record Rise (ring ticks : ℕ) (pieces : List ExchangeCall) (kept : Option M
 one_more : (ring : ℕ) (pieces : List ExchangeCall) (piece : ExchangeCall) (k : Measurement) → IsOf ring pieces k → IsOf ring (piece ∷ pieces) k
 one_more ring pieces piece k h = record { since = piece ∷ h.since; before = h.before; splits = ap (λ (l : List ExchangeCall). piece ∷ l) h.splits; four = h.four }
 
--- a piece that tells no other tick than this
+-- a piece that gives no other tick than this
 abbrev TellsOnly : ℕ → ExchangeCall → Type 0
 TellsOnly ticks piece = IfSome (tick_of piece) (λ t. t ≡ ticks)
 
@@ -92,7 +94,7 @@ tick_rises ring ticks pieces kept r = record { last = later_last ticks pieces r.
 fewer_rise : (ring ticks : ℕ) (pieces : List ExchangeCall) (old new : Option Measurement) → ((k : Measurement) → new ≡ Some k → old ≡ Some k) → Rise ring ticks pieces old → Rise ring ticks pieces new
 fewer_rise ring ticks pieces old new f r = record { last = r.last; rise = r.rise; of = λ k is. r.of k (f k is) }
 
--- What a port is told
+-- What a port is given
 
 message_tells : (role : Role) (head : Head) (body : Body) (stamp : Stamp) (ticks : ℕ) → IfSome (piece_of role head body stamp ticks) (TellsOnly ticks)
 message_tells Slave head (Sync origin) stamp ticks = refl
@@ -181,7 +183,7 @@ four_measured set told message stamp tick four e =
     let o : Option ExchangeCall = call_of set (rest_after set told) (Msg message stamp tick) in
     four_told (pairs o && is_kept set.ring (calls_of set told) o) set.ring (calls_of set told) o four e
 
--- and so not older than the one that stands
+-- and so not older than the one that is held
 young_by : (o p : Option Four) (a b : Four) → o ≡ Some a → p ≡ Some b → NotOlder o p → a.tick ≤ b.tick
 young_by o p a b e f h = subst (λ (z : Option Four). IfSome z (λ g. a.tick ≤ g.tick)) f (subst (λ (z : Option Four). IfSome z (λ g. IfSome p (λ h. g.tick ≤ h.tick))) e h)
 

@@ -1,4 +1,4 @@
--- In TRACK the four that stands is true of the chain, and young.
+-- In TRACK the four that the servo holds is true of the chain, and young.
 use Rattle.std.proofs.Common.{◌≡◌, ◌∙◌, ap, sym, subst, ℕ, min, ◌+◌, ◌≤◌, pos, ◌+ℤ◌, ◌-ℤ◌, ◌≤ℤ◌, is_some, List, ◌∷◌, length, Option, None, Some, unsigned_abs, arith}
 use Rattle.std.specs.Prelude.{IfSome}
 use Rattle.std.proofs.lemmas.Option.{none-some, same_Some}
@@ -52,7 +52,7 @@ pub record AgeLaws : Type 0 where
   pub near : TrackIsNear
   pub young : TrackIsYoung
 
--- the laws that this stands on
+-- the laws that this rests on
 pub record FourLaws : Type 0 where
   pub syncs : SyncsTell
   pub delays : DelaysTell
@@ -73,7 +73,7 @@ joined S D None p four e s d = absurd (none-some four e)
 joined S D (Some sync) None four e s d = absurd (none-some four e)
 joined S D (Some sync) (Some delay) four e s d = record { sync = sync; delay = delay; is = sym (same_Some (four_from sync delay) four e); synced = s; delayed = d }
 
--- The age of the four that stands
+-- The age of the four that the servo holds
 
 pub young_ticks : AgeLaws → (s : Setting) (events : List Happened) (k : ℕ) (link : LinkCfg) (kept : Measurement) → IsRun s events → link_of s k ≡ Some link → (servo_at (node_setting_of s link.lower) ((world_after s events).node link.lower)).state ≡ Track →
     IsKept s link.lower events kept → ((world_after s events).node link.lower).ticks ≤ kept.four.tick + unsigned_abs s.cfg.age
@@ -105,7 +105,7 @@ tick_of_delay four sync delay ticks e f = subst (λ (t : ℕ). four.tick ≤ t) 
 few_ticks : (now tick sent age : ℕ) → now ≤ tick + age → tick ≤ sent → now ≤ sent + age
 few_ticks now tick sent age h k = omega (arith, h, k)
 
--- the two pairs tell what they should
+-- the two pairs give what they should
 abbrev TruePairs : (s : Setting) (events : List Happened) (k : ℕ) (link : LinkCfg) (hop : HopNumbers) → ChainRuns s events k link hop → Four → Type 0
 TruePairs s events k link hop chain four =
     IsJoined (λ p. IsWithin (down_error hop) ((p.t1 -ℤ p.t2) +ℤ p.u2) chain.constant) (PairTrue hop chain.constant (moments_of s k link events) (length (chain.start ∷ chain.before))) four

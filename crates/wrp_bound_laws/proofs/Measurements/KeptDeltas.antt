@@ -1,4 +1,4 @@
--- The measurement that stands in a node was reckoned by the deltas of its link, which are still those of the link.
+-- The measurement that a node holds was computed from the deltas of its link, which are still the deltas of the link.
 use Rattle.std.proofs.Common.{◌≡◌, ◌⊎◌, inl, inr, ◌∙◌, refl, ap, sym, subst, ℕ, ℤ, Bool, true, false, if◌then◌else◌, is_some, List, [], ◌∷◌, Option, None, Some}
 use Rattle.std.specs.Prelude.{nat_le}
 use Rattle.std.proofs.lemmas.Bool.{false≢true}
@@ -35,15 +35,15 @@ use Rattle.wrp_bound_laws.proofs.Measurements.FourCalls.{Brings, kept_before, ke
 use Rattle.wrp_bound_laws.proofs.Measurements.FourRises.{free_measures_none}
 use Rattle.wrp_bound_laws.proofs.Nodes.FourSteps.{IsFree, IsOnlySlave, KeptByEach, KeptByLink, leased_keeps, step_keeps_each}
 
--- the laws that this stands on
+-- the laws that this rests on
 pub record DeltaLaws : Type 0 where
   pub told : ToldLast
   pub signals : ChainHasSignals
   pub links : StepGivesLinks
 
--- What the servo was told of the link
+-- What the servo was given of the link
 
--- the measurement that stands was reckoned by the deltas that the servo was told last
+-- the measurement that is held was computed from the deltas that the servo was given last
 pub record IsReckonedBy (x : ServoSetting) (calls : List Call) (k : Measurement) : Type 0 where
   pub was : WasMeasured x calls k
   pub told : link_told calls ≡ Some was.deltas
@@ -101,7 +101,7 @@ each_reckons laws fixed p =
       reset = λ ticks told calls h k is. absurd (none-some k is);
     }
 
--- while a measurement stands, nothing is told of the link: it is on, and to be off would end the chain
+-- while a measurement is held, nothing is reported of the link: it is on, and going off would end the chain
 never_off : (told on : Bool) → told ≡ true → on ≡ true → is_changed told on ≡ true → ⊥
 never_off true true e f c = false≢true c
 never_off true false e f c = false≢true f
@@ -180,12 +180,12 @@ stays_on set role l d news e =
     subst (λ (r : Role). (deltas_of r (link_after set l news) ≡ None) ⊎ (deltas_of r (link_after set l news) ≡ Some d)) (sym it.0)
     (subst (λ (z : LinkAt). StaysOn d (link_after set z news)) (sym is) (news_stays set l d news (inr now)))
 
--- What the servo was told of it is so, after every input
+-- What the servo was given of the link still holds, after every input
 
 abbrev pub KnowsDeltas : NodeSetting → NodeAt → Type 0
 KnowsDeltas fixed n = (d : Deltas) → link_told n.calls ≡ Some d → deltas_in fixed.set n ≡ Some d
 
--- nothing is told of it before the end of a step
+-- nothing is reported of it before the end of a step
 each_tells : (fixed : NodeSetting) (p : ℕ) (old : List Call) → KeptByEach fixed p (λ ticks told calls. (d : Deltas) → link_told calls ≡ Some d → link_told old ≡ Some d)
 each_tells fixed p old = record {
   port = λ ticks told calls input plain h. h;

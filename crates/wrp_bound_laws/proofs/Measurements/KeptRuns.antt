@@ -1,4 +1,5 @@
--- The delay of the measurement that stands was reckoned by the deltas of the link as it is now, with an answer that is near.
+-- The delay of the measurement that is held was computed from the deltas of the link as it is now, with an answer that
+-- is near.
 use Rattle.std.proofs.Common.{◌≡◌, sym, subst, ℕ, ℤ, List, [], ◌∷◌, ◌++◌, Some}
 use Rattle.wrp_base.specs.declared.measurement.Four.{Four}
 use Rattle.wrp_node.specs.NodeAt.{NodeAt, Taken, deltas_in, servo_setting_of, slave_of}
@@ -17,7 +18,7 @@ use Rattle.wrp_bound_laws.proofs.Measurements.KeptDeltas.{DeltaLaws, IsReckonedB
 use Rattle.wrp_bound_laws.proofs.Runs.NodeRuns.{node_is}
 use Rattle.wrp_bound_laws.proofs.SyncPairs.SyncGiven.{slave_at}
 
--- The answer beside a measurement among the calls is one of the law's
+-- The answer with a measurement among the calls is one of the law's
 
 answer_within : (answers : ℤ → ℤ → Type 0) (x : ServoSetting) (since before : List Call) (f : Four) (y : ℤ) → AllAnswered answers x (since ++ CallMeasured f y ∷ before) → IsAnswer answers x (servo_after x before) f y
 answer_within answers x [] before f y h = h.0

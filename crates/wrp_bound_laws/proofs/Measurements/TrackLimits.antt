@@ -1,4 +1,4 @@
--- A node in TRACK keeps its limits: those of its servo are the network's, and its four is young.
+-- A node in TRACK keeps its limits: the limits of its servo are the network's, and its four is young.
 use Rattle.std.proofs.Common.{◌≡◌, ◌∙◌, refl, ap, sym, subst, ℕ, ◌+◌, ◌≤◌, ℤ, pos, ◌≤ℤ◌, unsigned_abs, true, is_some, Option, None, Some}
 use Rattle.std.proofs.lemmas.Bool.{false≢true}
 use Rattle.wrp_base.specs.declared.link.ServoState.TheVariants.{Track}
@@ -25,7 +25,7 @@ use Rattle.wrp_bound_laws.proofs.Sources.Parents.{has_servo, with_servo}
 within : (set limit x : ℤ) → set ≡ limit → is_within set x ≡ true → pos (unsigned_abs x) ≤ℤ limit
 within set limit x same h = within_says limit x (subst (λ l. is_within l x ≡ true) same h)
 
--- the measurement that stands
+-- the measurement that is held
 some_kept : (o : Option Measurement) → is_some o ≡ true → (kept : Measurement) × (o ≡ Some kept)
 some_kept None e = absurd (false≢true e)
 some_kept (Some kept) e = (kept, refl)

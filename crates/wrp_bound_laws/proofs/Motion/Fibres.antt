@@ -27,7 +27,7 @@ use Rattle.wrp_bound_laws.proofs.Motion.OnTime.{first_part}
 use Rattle.wrp_bound_laws.proofs.Motion.Slow.{check_says, flat_from}
 use Rattle.wrp_bound_laws.proofs.Runs.Suffixes.{run_before}
 
--- What the checks of a fibre speak of
+-- What the checks of a fibre are about
 
 abbrev kept_with : Setting → ℕ → FibreState → (down up : ℤ) → List Check
 kept_with s k fibre down up = map (only_where fibre.joined) (option_map_or (λ link. fibre_by (pos (reach s.cfg)) fibre down up link) (link_of s k) [])

@@ -1,5 +1,5 @@
--- Clocks and fibres move slowly: the grandmaster's clock not at all, one that may be followed or that has a chain at its
--- rate, and both ways of a link with its carrier.
+-- Clocks and fibres move slowly: the grandmaster's clock not at all, one that may be followed or that has a chain at
+-- its rate, and both ways of a link with its carrier.
 use Rattle.std.proofs.Common.{◌≡◌, ◌⊎◌, inl, inr, ◌∙◌, refl, ap, sym, subst, ℕ, ◌*◌, ◌<◌, ◌≤◌, ◌==◌, ◌&&◌, ◌||◌, max, ℤ, pos, ◌+ℤ◌, ◌≤ℤ◌, unsigned_abs, not, Bool, true, false, if◌then◌else◌, is_some, List, [], ◌∷◌, ◌++◌, length, map, flat_map, Option, None, Some, option_map, Result, arith}
 use Rattle.std.proofs.lemmas.Bool.Decides.{eqb_tells}
 use Rattle.std.proofs.lemmas.Int.{ints}
@@ -120,7 +120,7 @@ most_is : (b : Bool) (slew hold : ℕ) → b ≡ true → max slew hold ≡ (if 
 most_is true slew hold e = refl
 most_is false slew hold e = absurd (let f : false ≡ true = e in cc)
 
--- the laws that this stands on
+-- the laws that this rests on
 pub record RateLaws : Type 0 where
   pub locked : ChainIsLocked
   pub commands : CommandsAreHeld
@@ -292,7 +292,7 @@ way_is tx tx' rx rx' m m' d t r e =
 no_more : (a b : ℤ) → b ≡ a +ℤ pos 0 → b ≡ a
 no_more a b e = omega (arith, ints, e)
 
--- the modules stay, and the fibre moves so far
+-- the modules stay, and the fibre moves this far
 ways_by : ModulesStay → (s : Setting) (h : Happened) (before : List Happened) (k : ℕ) (link : LinkCfg) (down up : ℤ) → IsRun s (h ∷ before) → IsCarried s k before → FibreMoves ((world_after s before).fibre k) (fibre_after (world_after s before) h.event k) down up →
     (delay_from (world_after s (h ∷ before)) k Master ≡ delay_from (world_after s before) k Master +ℤ down) × (delay_from (world_after s (h ∷ before)) k Slave ≡ delay_from (world_after s before) k Slave +ℤ up)
 ways_by stay s h before k link down up run carried moves =
@@ -311,7 +311,7 @@ WaysSlow s w now k = Slow 2 w.time now.time (delay_from w k Master) (delay_from 
 pub joined_is : (s : Setting) (w : WorldAt) (k : ℕ) → has_carrier s w k ≡ true → (w.fibre k).joined ≡ true
 joined_is s w k c = (and_parts (w.fibre k).joined (ends_are_up w.clock (link_of s k)) c).0
 
--- where no time passes they stay
+-- if no time passes they stay
 pub ways_stay : ModulesStay → (s : Setting) (h : Happened) (before : List Happened) (k : ℕ) (link : LinkCfg) → IsRun s (h ∷ before) → IsCarried s k before → IsStillEvent h.event →
     (delay_from (world_after s (h ∷ before)) k Master ≡ delay_from (world_after s before) k Master) × (delay_from (world_after s (h ∷ before)) k Slave ≡ delay_from (world_after s before) k Slave)
 ways_stay stay s h before k link run carried still =

@@ -1,4 +1,4 @@
--- A node commands no step of its clock in TRACK or HOLDOVER, nor at an input after which a chain of its servo stands.
+-- A node commands no step of its clock in TRACK or HOLDOVER, nor at an input after which its servo has a chain.
 use Rattle.std.proofs.Common.{◌≡◌, ◌∙◌, refl, ap, sym, ℕ, ℤ, pos, ◌||◌, cond, Bool, true, false, if◌then◌else◌, is_some, List, ◌∷◌, Option, None, Some, Result, Ok, Err}
 use Rattle.wrp_base.specs.declared.link.Deltas.{Deltas}
 use Rattle.wrp_base.specs.declared.link.ServoState.{ServoState}
@@ -27,11 +27,11 @@ use Rattle.wrp_servo.specs.Table.{ended, ended_in, is_track, linked, uninit_outs
 use Rattle.wrp_node.proofs.StepLaws.{settled_cycles}
 use Rattle.wrp_bound_laws.proofs.Nodes.StepCalls.{IsTelling, settled_keeps}
 
--- What is told of the lease and of the link commands nothing
+-- News of the lease and of the link commands nothing
 
 -- A measurement
 
--- the servo, told this measurement after these calls, commands no step, if it is one that the step allows
+-- the servo, given this measurement after these calls, commands no step, if it is one that the step allows
 abbrev Stills : NodeSetting → NodeAt → (List Call → Type 0) → Type 0
 Stills fixed n P = (four : Four) (answer : ℤ) → P (CallMeasured four answer ∷ n.calls) → (answer_to (servo_setting_of fixed) (run (servo_setting_of fixed) n.calls) (CallMeasured four answer)).cycles ≡ pos 0
 
@@ -75,7 +75,7 @@ pub still_without_servo : CommandsAreHeld → (fixed : NodeSetting) (t : Taken) 
 still_without_servo held fixed t n e =
     input_still held fixed t n (λ _. Unit {0}) t.input refl (λ servo. absurd (let f : false ≡ true = sym e ∙ servo in cc)) tt
 
--- Where a chain stands after it
+-- If there is a chain after it
 
 abbrev pub Stands : Core → Type 0
 Stands v = is_some v.first ≡ true
@@ -83,7 +83,7 @@ Stands v = is_some v.first ≡ true
 no_first : (v : Core) → v.first ≡ None → Stands v → ⊥
 no_first v e h = (let f : false ≡ true = ap is_some (sym e) ∙ h in cc)
 
--- after its end none stands
+-- after its end there is none
 pub none_ended : (v : Core) (s : ServoState) → (ended_in v s).first ≡ None
 none_ended v Uninit = refl
 none_ended v SyncTai = refl
@@ -126,7 +126,7 @@ deltas_still : (x : ServoSetting) (v : Core) (f : Four) (y : ℤ) (o : Option De
 deltas_still x v f y None h = refl
 deltas_still x v f y (Some d) h = range_still x v f y d (is_in x.lo x.hi (x_of d f)) h
 
--- what is told of lease and link starts none
+-- news of lease and link starts none
 uninit_first : (v : Core) (s : ServoState) → (uninit_outside_holdover v s).first ≡ v.first
 uninit_first v Uninit = refl
 uninit_first v SyncTai = refl
@@ -158,7 +158,7 @@ telling_starts_none x calls CallTick t h = absurd t
 telling_starts_none x calls (CallCarrier up) t h = absurd t
 telling_starts_none x calls CallReset t h = absurd t
 
--- it stood when lease and link were told
+-- it was there when the news of lease and link was given
 pub stood_before_telling : (fixed : NodeSetting) (s : Step) → Stands (run (servo_setting_of fixed) (settled fixed s).node.calls) → Stands (run (servo_setting_of fixed) s.node.calls)
 stood_before_telling fixed s h =
     settled_keeps (λ calls. Stands (run (servo_setting_of fixed) calls) → Stands (run (servo_setting_of fixed) s.node.calls))

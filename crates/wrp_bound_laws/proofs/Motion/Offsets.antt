@@ -1,4 +1,4 @@
--- What an event makes of the offset of a node that commands no step.
+-- What an event does to the offset of a node that commands no step.
 use Rattle.std.proofs.Common.{◌≡◌, inl, inr, ◌∙◌, refl, ap, sym, subst, ℕ, ◌+◌, ◌==◌, ℤ, pos, ◌+ℤ◌, ◌*ℤ◌, Bool, true, false, if◌then◌else◌, List, [], ◌∷◌, Option, None, Some, Result, Ok}
 use Rattle.std.proofs.lemmas.Bool.Decides.{eqb_tells}
 use Rattle.std.specs.Option.{option_map_or}
@@ -48,7 +48,7 @@ all_given_off held s y (g ∷ gs) v n h =
 
 -- Events
 
--- events by which no frame is handed over
+-- events in which no frame is handed over
 abbrev pub HandsNone : Event → Type 0
 HandsNone (Deliver i) = ⊥
 HandsNone (Noise m p octets raw) = ⊥
@@ -101,7 +101,7 @@ frame_off s y w v (Some f) n K same still h = arrival_off s y w v f f.arrival n 
 pub plain_off : CommandsAreHeld → (s : Setting) (says : Result PtpMsg FrameFault) (y : ℤ) (w : WorldAt) (e : Event) (n : ℕ) → HandsNone e → ((world_step s says y w e).clock n).off ≡ (clock_after w e n).off
 plain_off held s says y w e n h = all_given_off held s y (given_by s w (moved s w e) says e) (moved s w e) n (gives_to IsNoFrame s w (moved s w e) says n e (none_to n e h))
 
--- the offset is that which the event makes by itself
+-- the offset is the one that the event makes by itself
 pub event_off : CommandsAreHeld → (s : Setting) (says : Result PtpMsg FrameFault) (y : ℤ) (w : WorldAt) (e : Event) (n : ℕ) (K : NodeAt → Type 0) → IsStill s w n K → K ((world_step s says y w e).node n) →
     ((world_step s says y w e).clock n).off ≡ (clock_after w e n).off
 event_off held s says y w (Deliver i) n K still h = frame_off s y w (moved s w (Deliver i)) (w.frame i) n K refl still h

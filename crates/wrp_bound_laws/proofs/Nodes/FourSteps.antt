@@ -1,4 +1,4 @@
--- What a node's step keeps of its slave port and of its servo: what each telling of either keeps.
+-- What a node's step keeps of its slave port and of its servo: what each report to either keeps.
 use Rattle.std.proofs.Common.{◌≡◌, ◌∙◌, refl, ap, sym, subst, ℕ, ◌+◌, ℤ, ◌==◌, Bool, true, false, if◌then◌else◌, is_some, List, ◌∷◌, Option, None, Some, Result, Ok, Err}
 use Rattle.std.proofs.lemmas.Option.{none-some, same_Some}
 use Rattle.wrp_base.specs.declared.link.Deltas.{Deltas}
@@ -30,11 +30,11 @@ use Rattle.wrp_servo.specs.declared.interface.ServoOut.{ServoOut}
 use Rattle.wrp_servo.specs.Servo.{answer_to}
 use Rattle.wrp_servo.specs.Told.{lease_told, link_told}
 
--- of a node: its ticks, what its slave port was told, and its servo's calls
+-- of a node: its ticks, what its slave port was given, and its servo's calls
 abbrev pub At : (ℕ → List PortIn → List Call → Type 0) → ℕ → NodeAt → Type 0
 At P p n = P n.ticks (n.told p) n.calls
 
--- what a port is told, but for a reset and for what its servo answers: with the ticks of the node, where it has any
+-- what a port is given, except a reset and what its servo answers: with the ticks of the node, if it has any
 abbrev pub IsPlain : ℕ → PortIn → Type 0
 IsPlain ticks (Msg message stamp tick) = tick ≡ ticks
 IsPlain ticks (PortSent delay seq stamp tick) = tick ≡ ticks
@@ -43,18 +43,18 @@ IsPlain ticks (Chain news) = ⊥
 IsPlain ticks PortReset = ⊥
 IsPlain ticks _ = Unit {0}
 
--- what the servo is told, but for measurements, for the link and for a reset
+-- what the servo is given, except measurements, the link and a reset
 abbrev pub IsFree : Call → Type 0
 IsFree (CallMeasured four answer) = ⊥
 IsFree (CallLink on) = ⊥
 IsFree CallReset = ⊥
 IsFree _ = Unit {0}
 
--- what the servo's answer to a call makes of what the port was told
+-- what the servo's answer to a call adds to what the port was given
 abbrev pub answered : NodeSetting → List PortIn → List Call → Call → List PortIn
 answered fixed told calls c = heard_of (answer_to (servo_setting_of fixed) (run (servo_setting_of fixed) calls) c) (number_of (Some c)) told
 
--- each telling of the port or of the servo keeps this, but for those of the link
+-- each report to the port or to the servo keeps this, except the reports of the link
 pub record KeptByEach (fixed : NodeSetting) (p : ℕ) (P : ℕ → List PortIn → List Call → Type 0) : Type 0 where
   pub port : (ticks : ℕ) (told : List PortIn) (calls : List Call) (input : PortIn) → IsPlain ticks input → P ticks told calls → P ticks (input ∷ told) calls
   pub count : (ticks : ℕ) (told : List PortIn) (calls : List Call) → P ticks told calls → P (ticks + 1) told calls
@@ -65,7 +65,7 @@ pub record KeptByEach (fixed : NodeSetting) (p : ℕ) (P : ℕ → List PortIn �
       P ticks told calls → P ticks (answered fixed (Msg message stamp ticks ∷ told) calls (CallMeasured four answer)) (CallMeasured four answer ∷ calls)
   pub reset : (ticks : ℕ) (told : List PortIn) (calls : List Call) → P ticks told calls → P 0 (PortReset ∷ told) (CallReset ∷ calls)
 
--- and so does what is told of the link, where it changed
+-- and so does the report of the link, if it changed
 abbrev pub KeptByLink : NodeSetting → (ℕ → List PortIn → List Call → Type 0) → Type 0
 KeptByLink fixed P =
     (ticks : ℕ) (told : List PortIn) (calls : List Call) (on : Option Deltas) → is_changed (is_some (link_told calls)) (is_some on) ≡ true → P ticks told calls →
@@ -75,7 +75,7 @@ KeptByLink fixed P =
 abbrev pub IsOnlySlave : NodeSetting → ℕ → Type 0
 IsOnlySlave fixed p = (q : ℕ) → (port_of fixed.set q).role ≡ Slave → q ≡ p
 
--- One telling
+-- One report
 
 told_here : (o : Option ℕ) (p : ℕ) (out : ServoOut) (number : ℕ) (told : ℕ → List PortIn) → o ≡ Some p → told_by o out number told p ≡ heard_of out number (told p)
 told_here None p out number told e = absurd (none-some p e)
@@ -90,20 +90,20 @@ pub tell_nothing : (P : ℕ → List PortIn → List Call → Type 0) (fixed : N
 tell_nothing P fixed p s slave h =
     subst (λ (told : List PortIn). P s.node.ticks told s.node.calls) (sym (told_here (slave_of fixed.set) p no_answer 0 s.node.told slave)) h
 
--- something may be told, where there is a servo
+-- something may be reported, if there is a servo
 pub tell_where : (P : ℕ → List PortIn → List Call → Type 0) (fixed : NodeSetting) (p : ℕ) (s : Step) (has changes : Bool) (c : Call) → slave_of fixed.set ≡ Some p →
     (changes ≡ true → At P p s.node → P s.node.ticks (answered fixed (s.node.told p) s.node.calls c) (c ∷ s.node.calls)) → At P p s.node → At P p (tell fixed (if has then (if changes then Some c else None) else None) s).node
 tell_where P fixed p s true true c slave f h = tell_some P fixed p s c slave (f refl h)
 tell_where P fixed p s true false c slave f h = tell_nothing P fixed p s slave h
 tell_where P fixed p s false changes c slave f h = tell_nothing P fixed p s slave h
 
--- and is, where there is one
+-- and is reported, if there is one
 tell_has : (P : ℕ → List PortIn → List Call → Type 0) (fixed : NodeSetting) (p : ℕ) (s : Step) (has : Bool) (c : Call) → slave_of fixed.set ≡ Some p → P s.node.ticks (answered fixed (s.node.told p) s.node.calls c) (c ∷ s.node.calls) → At P p s.node →
     At P p (tell fixed (if has then Some c else None) s).node
 tell_has P fixed p s true c slave f h = tell_some P fixed p s c slave f
 tell_has P fixed p s false c slave f h = tell_nothing P fixed p s slave h
 
--- one port is told something
+-- one port is given something
 told_where : (P : ℕ → List PortIn → List Call → Type 0) (ticks : ℕ) (told : List PortIn) (calls : List Call) (input : PortIn) (b : Bool) → (P ticks told calls → P ticks (input ∷ told) calls) → P ticks told calls → P ticks (if b then input ∷ told else told) calls
 told_where P ticks told calls input true f h = f h
 told_where P ticks told calls input false f h = h
@@ -121,7 +121,7 @@ measured_here fixed p q n m stamp tick four only e =
 
 -- Each input
 
--- it is kept by each telling of a node with this slave port
+-- each report in a node with this slave port keeps it
 record Keeps (fixed : NodeSetting) (p : ℕ) (P : ℕ → List PortIn → List Call → Type 0) : Type 0 where
   each : KeptByEach fixed p P
   slave : slave_of fixed.set ≡ Some p
@@ -194,7 +194,7 @@ stepped_to P fixed p n (Carrier q up own_module) says answer k h =
     (handed_to P fixed p q n (PortCarrier up own_module) k tt h)
 stepped_to P fixed p n Reset says answer k h = reset_to P fixed p n (is_some (slave_of fixed.set)) k (ap is_some k.slave) h
 
--- up to what is told of the lease
+-- up to the news of the lease
 pub leased_keeps : (P : ℕ → List PortIn → List Call → Type 0) (fixed : NodeSetting) (p : ℕ) → KeptByEach fixed p P → slave_of fixed.set ≡ Some p → IsOnlySlave fixed p → (t : Taken) (n : NodeAt) → At P p n → At P p (with_lease fixed (stepped fixed t.input t.says t.answer n)).node
 leased_keeps P fixed p k slave only t n h =
     let keeps : Keeps fixed p P = record { each = k; slave = slave; only = only } in

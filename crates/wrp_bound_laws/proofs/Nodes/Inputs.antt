@@ -1,4 +1,4 @@
--- What an event makes of a node: the node's steps at the inputs that it is given.
+-- What an event does to a node: the node's steps at the inputs that it is given.
 use Rattle.std.proofs.Common.{◌≡◌, inl, inr, ◌∙◌, refl, ap, sym, subst, ℕ, ℤ, Bool, true, false, if◌then◌else◌, List, [], ◌∷◌, Option, None, Result, ◌⊎◌}
 use Rattle.std.proofs.lemmas.Bool.Decides.{eqb_tells}
 use Rattle.std.specs.List.{AllByRecursion}
@@ -83,7 +83,7 @@ gives_to Q s w v says n (Cut k) h =
 gives_to Q s w v says n (Join k ms sm) h =
     all_to Q n (if has_carrier s v k then comes_from s v k Master else []) (all_if Q (has_carrier s v k) (comes_from s v k Master) (comes_all Q h s v k Master))
 
--- what inputs of these kinds keep of a node, an event that gives it no others keeps
+-- what inputs of these kinds keep of a node is kept by an event that gives it no others
 pub node_kept : (P : NodeAt → Type 0) (Q : Input → Type 0) (s : Setting) (says : Result PtpMsg FrameFault) (y : ℤ) (w : WorldAt) (e : Event) (n : ℕ) →
     ((t : Taken) (m : NodeAt) → Q t.input → P m → P (node_step (node_setting_of s n) t m).node) → GivesTo Q n e → P (w.node n) → P ((world_step s says y w e).node n)
 node_kept P Q s says y w e n step h p =
@@ -120,7 +120,7 @@ pub all_given_stands : (s : Setting) (y : ℤ) (gs : List Given) (v : WorldAt) (
 all_given_stands s y [] v n = refl
 all_given_stands s y (g ∷ gs) v n = all_given_stands s y gs (gives s y v g) n ∙ given_up s y v g n
 
--- an event by which a node does not tick
+-- an event in which a node does not tick
 abbrev pub IsNoTickOf : ℕ → Event → Type 0
 IsNoTickOf n (Tick m) = n ≡ m → ⊥
 IsNoTickOf n _ = Unit {0}

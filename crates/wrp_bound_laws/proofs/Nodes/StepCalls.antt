@@ -1,4 +1,4 @@
--- What the list of a servo's calls gains at an input of its node.
+-- What an input of a node adds to the list of its servo's calls.
 use Rattle.std.proofs.Common.{◌≡◌, sym, subst, ℕ, ℤ, Bool, true, false, if◌then◌else◌, is_some, List, ◌∷◌, Option, None, Some, Result, Ok, Err}
 use Rattle.wrp_base.specs.declared.measurement.Four.{Four}
 use Rattle.wrp_base.specs.declared.message.PtpMsg.{PtpMsg}
@@ -20,7 +20,7 @@ use Rattle.wrp_bound_laws.proofs.Sources.Holding.{IsCalmCall}
 abbrev pub KeptBy : (Call → Type 0) → (List Call → Type 0) → Type 0
 KeptBy C P = (calls : List Call) (call : Call) → C call → P calls → P (call ∷ calls)
 
--- a call that tells of the lease or of the link
+-- a call that gives news of the lease or of the link
 abbrev pub IsTelling : Call → Type 0
 IsTelling (CallLease fresh) = Unit {0}
 IsTelling (CallLink on) = Unit {0}
@@ -43,7 +43,7 @@ called_if : (C : Call → Type 0) (P : List Call → Type 0) → KeptBy C P → 
 called_if C P k true changes call calls c h = called_where C P k changes call calls c h
 called_if C P k false changes call calls c h = h
 
--- the servo is told of the lease and of the link
+-- the servo is given the news of the lease and of the link
 leased : (P : List Call → Type 0) → KeptBy IsTelling P → (fixed : NodeSetting) (s : Step) → P s.node.calls → P (with_lease fixed s).node.calls
 leased P k fixed s h =
     called_if IsTelling P k (is_some (slave_of fixed.set)) (is_changed (lease_told s.node.calls) (is_fresh_in fixed.set s.node)) (CallLease (is_fresh_in fixed.set s.node)) s.node.calls tt h
@@ -82,7 +82,7 @@ stepped_keeps C P k l fixed n (Carrier p up own_module) says answer c h =
     called_if C P k (is_some (slave_of fixed.set)) (is_slave_port (slave_of fixed.set) p) (CallCarrier up) n.calls c h
 stepped_keeps C P k l fixed n Reset says answer c h = called_where C P k (is_some (slave_of fixed.set)) CallReset n.calls c h
 
--- what calls of these kinds keep, an input that brings no others keeps
+-- what calls of these kinds keep is kept by an input that brings no others
 pub step_keeps : (C : Call → Type 0) (P : List Call → Type 0) → KeptBy C P → KeptBy IsTelling P → (fixed : NodeSetting) (t : Taken) (n : NodeAt) → Brings C t.input → P n.calls → P (node_step fixed t n).node.calls
 step_keeps C P k l fixed t n c h = settled_keeps P l fixed (stepped fixed t.input t.says t.answer n) (stepped_keeps C P k l fixed n t.input t.says t.answer c h)
 
@@ -120,7 +120,7 @@ one_tick : (P Q : List Call → Type 0) → ((calls : List Call) → P calls →
 one_tick P Q f true calls e h = f calls h
 one_tick P Q f false calls e h = absurd cc
 
--- it is told to the servo once: after what is told of the lease that may lapse, and before what the ports' tick makes
+-- the servo is given it once: after the news of the lease that may lapse, and before what the ports' tick makes
 calls_before_ports : (P Q : List Call → Type 0) → KeptBy IsTelling P → ((calls : List Call) → P calls → Q (CallTick ∷ calls)) → (fixed : NodeSetting) (n : NodeAt) → is_some (slave_of fixed.set) ≡ true → P n.calls → Q (servo_ticked fixed n).node.calls
 calls_before_ports P Q k f fixed n has h =
     one_tick P Q f (is_some (slave_of fixed.set)) (lease_ticked fixed n).node.calls has (leased P k fixed (step_from (counted_tick fixed n)) h)
@@ -133,7 +133,7 @@ ports_keep Q k fixed t n is h =
 pub calls_after_ports : (Q : List Call → Type 0) → KeptBy IsCalmCall Q → (fixed : NodeSetting) (t : Taken) (n : NodeAt) → t.input ≡ Tick → Q (servo_ticked fixed n).node.calls → Q (node_step fixed t n).node.calls
 calls_after_ports Q k fixed t n is h = ports_keep Q (telling_calm Q k) fixed t n is h
 
--- what stands before it, and what it makes of that
+-- what is there before it, and what it makes of that
 pub told_tick : (P Q : List Call → Type 0) → KeptBy IsTelling P → KeptBy IsTelling Q → ((calls : List Call) → P calls → Q (CallTick ∷ calls)) → (fixed : NodeSetting) (t : Taken) (n : NodeAt) → t.input ≡ Tick → is_some (slave_of fixed.set) ≡ true →
     P n.calls → Q (node_step fixed t n).node.calls
 told_tick P Q k l f fixed t n is has h = ports_keep Q l fixed t n is (calls_before_ports P Q k f fixed n has h)

@@ -1,4 +1,4 @@
--- What an input of a node makes of the lease of its slave port.
+-- What an input of a node does to the lease of its slave port.
 use Rattle.std.proofs.Common.{◌≡◌, ◌⊎◌, inl, inr, ◌∙◌, refl, ap, sym, ℕ, ℤ, ◌+◌, ◌==◌, Bool, true, false, if◌then◌else◌, List, ◌∷◌, Option, None, Some, option_map, Result, Ok, Err}
 use Rattle.std.proofs.lemmas.Bool.{eqb-true}
 use Rattle.std.proofs.lemmas.Option.{none-some, same_Some}
@@ -29,7 +29,7 @@ use Rattle.wrp_bound_laws.proofs.SyncPairs.SyncTold.{lease_there}
 abbrev pub turns_at : NodeSetting → NodeAt → ℕ → Option ℕ
 turns_at fixed n p = since_renewal (setting_of fixed.set p) (n.told p)
 
--- What the servo answers is nothing to it
+-- What the servo answers does not change it
 
 heard_turns : (set : Setting) (o : Option ℤ) (k : ℕ) (news : ChainNews) (told : List PortIn) → since_renewal set (with_sample o k (with_news news told)) ≡ since_renewal set told
 heard_turns set None k Same told = refl
@@ -55,7 +55,7 @@ settled_turns fixed s p = tell_turns fixed (link_change fixed (with_lease fixed 
 
 -- Each input
 
--- how the lease came to have so many turns, by the input
+-- how the lease came to have this many turns, by the input
 abbrev pub TurnsBefore : NodeSetting → NodeAt → ℕ → Input → Result PtpMsg FrameFault → ℕ → Type 0
 TurnsBefore fixed n p Tick says turns = (u : ℕ) × (u + 1 ≡ turns) × (turns_at fixed n p ≡ Some u)
 TurnsBefore fixed n p (Frame q octets raw sample) says turns =
@@ -75,7 +75,7 @@ tick_turns fixed n p slave =
     ∙ tell_turns fixed (lease_change fixed (counted_tick fixed n)) (step_from (counted_tick fixed n)) p
     ∙ ap (since_renewal (setting_of fixed.set p)) (lease_there (slave_of fixed.set) p n.told slave)
 
--- one port is told something
+-- one port is given something
 told_where : (b : Bool) (set : Setting) (told : List PortIn) (input : PortIn) (turns : ℕ) → since_renewal set (if b then input ∷ told else told) ≡ Some turns →
     ((b ≡ true) × (since_renewal set (input ∷ told) ≡ Some turns)) ⊎ ((b ≡ false) × (since_renewal set told ≡ Some turns))
 told_where true set told input turns e = inl (refl, e)

@@ -1,4 +1,5 @@
--- What an input of a node tells one of its ports: what it brings by itself, and what the servo's answers tell of its chain.
+-- What an input of a node gives one of its ports: what it brings by itself, and what the servo's answers say of its
+-- chain.
 use Rattle.std.proofs.Common.{◌≡◌, refl, sym, subst, ℕ, ℤ, ◌==◌, Bool, true, false, if◌then◌else◌, is_some, List, ◌∷◌, Option, None, Some, Result, Ok, Err, arith}
 use Rattle.std.proofs.lemmas.Bool.{eqb-true}
 use Rattle.wrp_base.specs.declared.link.Module.{Module}
@@ -25,7 +26,7 @@ use Rattle.wrp_servo.specs.declared.interface.ServoOut.{ServoOut}
 use Rattle.wrp_servo.specs.Call.{Call, CallSample, CallMeasured, CallTick, CallLease, CallLink, CallCarrier, CallReset}
 use Rattle.wrp_servo.specs.Told.{lease_told, link_told}
 
--- What is told of the chain
+-- What is given of the chain
 
 -- news of the chain keep it
 abbrev pub KeptByNews : (List PortIn → Type 0) → Type 0
@@ -83,7 +84,7 @@ no_sample_if : (b : Bool) (call : Option Call) → IsNoSampleCall call → IsNoS
 no_sample_if true call h = h
 no_sample_if false call h = tt
 
--- what is told of lease and link
+-- news of lease and link
 lease_kept : (P : List PortIn → Type 0) → KeptByNews P → (fixed : NodeSetting) (s : Step) (p : ℕ) → P (s.node.told p) → P ((with_lease fixed s).node.told p)
 lease_kept P k fixed s p h =
     tell_kept P k fixed (lease_change fixed s.node) s p
@@ -100,7 +101,7 @@ settled_told P k fixed s p h =
 
 -- Inputs
 
--- a tick: what is told before the port's tick
+-- a tick: what is given before the port's tick
 slave_told : (P : List PortIn → Type 0) → ((told : List PortIn) → P told → P (Lease ∷ told)) → (o : Option ℕ) (told : ℕ → List PortIn) (p : ℕ) → P (told p) → P (told_slave o Lease told p)
 slave_told P k None told p h = h
 slave_told P k (Some q) told p h = told_where P (p == q) (Lease ∷ told p) (told p) (λ e. k (told p) h) h
@@ -166,7 +167,7 @@ frame_told P k fixed n p q (Ok m) raw sample answer h old =
     subst (λ i. P (message_of fixed n i m raw sample ∷ n.told p)) same
     (h m refl same (subst (λ i. Hears fixed n i m) (sym same) none))) old)
 
--- a sending that is told
+-- a sending that is reported
 pub sent_told : (P : List PortIn → Type 0) → KeptByNews P → (fixed : NodeSetting) (n : NodeAt) (p q seq : ℕ) (delay : Bool) (stamp : Stamp) → (p ≡ q → P (PortSent delay seq stamp n.ticks ∷ n.told p)) → P (n.told p) →
     P ((settled fixed (handed fixed q (PortSent delay seq stamp n.ticks) n)).node.told p)
 sent_told P k fixed n p q seq delay stamp h old =
@@ -216,7 +217,7 @@ heard_by true true false takes e = absurd (not_none NotForUs e)
 heard_by true false addressed takes e = absurd (not_none Stranger e)
 heard_by false source addressed takes e = absurd (not_none Domain e)
 
--- is of its peer, and it takes messages then
+-- comes from its peer, and it takes messages then
 pub heard_of_peer : (fixed : NodeSetting) (n : NodeAt) (p : ℕ) (m : PtpMsg) → Hears fixed n p m → (is_port m.head.source (setting_of fixed.set p).ds.peer ≡ true) × (is_open (link_at fixed.set n p) ≡ true)
 heard_of_peer fixed n p m h =
     heard_by (m.head.domain == (setting_of fixed.set p).own.domain) (is_port m.head.source (setting_of fixed.set p).ds.peer) (is_addressed (setting_of fixed.set p).ds m.body) (is_open (link_at fixed.set n p)) h

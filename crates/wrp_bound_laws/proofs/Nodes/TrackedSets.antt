@@ -1,4 +1,4 @@
--- What a servo is set to, no call changes.
+-- No call changes what a servo is set to.
 use Rattle.std.proofs.Common.{◌≡◌, refl}
 use Rattle.wrp_base.specs.declared.link.ServoState.{ServoState}
 use Rattle.wrp_base.specs.declared.link.ServoState.TheVariants.{Uninit, SyncTai, SyncNsec, SyncPhase, WaitStable, Track, Holdover}

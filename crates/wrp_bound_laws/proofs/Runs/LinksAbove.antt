@@ -24,7 +24,7 @@ found_later test x xs false e h =
     let f : Found test xs = h refl in
     record { what = f.what; place = suc f.place; is = rw e f.is; there = f.there; passes = f.passes }
 
--- where one passes, the first that does is found
+-- if one passes, the first that does is found
 found_at : {A : Type 0} (test : A → Bool) (xs : List A) (k : ℕ) (x : A) → slice_get xs k ≡ Some x → test x ≡ true → Found test xs
 found_at test [] k x e t = absurd (none-some x e)
 found_at test (y ∷ xs) zero x e t = found_later test y xs (test y) refl (λ f. absurd (not_both (test x) t (ap test (sym (same_Some y x e)) ∙ f)))

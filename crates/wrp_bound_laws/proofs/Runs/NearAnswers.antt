@@ -1,4 +1,4 @@
--- What the laws of the links answer in a run is near the exact fraction, where each law answers so in its range.
+-- What the laws of the links answer in a run is near the exact fraction, if each law answers so in its range.
 use Rattle.std.proofs.Common.{◌≡◌, refl, ap, sym, ℕ, ℤ, pos, ◌≤ℤ◌, Option, None, Some, List, [], ◌∷◌, true, arith}
 use Rattle.std.specs.Prelude.{int_le, option_and_then, slice_get}
 use Rattle.std.specs.Option.{option_map_or}
@@ -51,7 +51,7 @@ in_range lo hi x is =
     let high : int_le x hi ≡ true = parts.1 in
     (grind (arith, ints), grind (arith, ints))
 
--- where what is answered in the range is so, so is each answer of a list of calls
+-- if each answer in the range is like this, so is each answer of a list of calls
 pub near_calls : (P Q : ℤ → ℤ → Type 0) (x : ServoSetting) → ((a y : ℤ) → x.lo ≤ℤ a → a ≤ℤ x.hi → P a y → Q a y) → (calls : List Call) → AllAnswered P x calls → AllAnswered Q x calls
 near_calls P Q x f [] h = tt
 near_calls P Q x f (CallMeasured four y ∷ calls) h = (
@@ -65,7 +65,7 @@ near_calls P Q x f (CallLink on ∷ calls) h = near_calls P Q x f calls h
 near_calls P Q x f (CallCarrier up ∷ calls) h = near_calls P Q x f calls h
 near_calls P Q x f (CallReset ∷ calls) h = near_calls P Q x f calls h
 
--- what is so of every answer is so of each answer of a list of calls
+-- what holds of every answer holds of each answer of a list of calls
 pub each_call : (Q : ℤ → ℤ → Type 0) (x : ServoSetting) → ((a y : ℤ) → Q a y) → (calls : List Call) → AllAnswered Q x calls
 each_call Q x f [] = tt
 each_call Q x f (CallMeasured four y ∷ calls) = (λ d is range. f (x_of d four) y, each_call Q x f calls)

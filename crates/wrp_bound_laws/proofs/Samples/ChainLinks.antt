@@ -38,7 +38,7 @@ pub new_deltas : (role r : Role) (x : LinkSet) → port_deltas role (new_link r 
 new_deltas Master r x = refl
 new_deltas Slave r x = refl
 
--- the servo knows the deltas just where the port does
+-- the servo knows the deltas if and only if the port does
 pub knows_link : StepSettles → (s : Setting) (events : List Happened) (n p : ℕ) → slave_of (s.set n) ≡ Some p → is_some (link_known ((world_after s events).node n).calls) ≡ is_some (deltas_in (s.set n) ((world_after s events).node n))
 knows_link settles s [] n p slave =
     sym (ap (λ (o : Option ℕ). is_some (deltas_at (s.set n) new_node o)) slave ∙ ap is_some (new_deltas (port_of (s.set n) p).role (setting_of (s.set n) p).ds.role (setting_of (s.set n) p).link))
@@ -59,7 +59,7 @@ on_state Slave l Calibrated h = absurd (false≢true h)
 on_state Slave l RespCalib h = absurd (false≢true h)
 on_state Master l state h = absurd (false≢true h)
 
--- such a link is open where it has its carrier
+-- such a link is open if it has its carrier
 pub on_open : (l : LinkAt) (c : Bool) → l.carrier ≡ c → c ≡ true → l.state ≡ LinkOn → is_open l ≡ true
 on_open l true lit e on = subst (λ b. is_open_word (if b then word_in l.state l.quiet else Down) ≡ true) (sym lit) (subst (λ t. is_open_word (word_in t l.quiet) ≡ true) (sym on) refl)
 on_open l false lit e on = absurd (false≢true e)

@@ -1,4 +1,4 @@
--- While a chain stands nothing of its link moves faster than the bound of its hop takes it.
+-- While there is a chain nothing of its link moves faster than the bound of its hop takes it.
 use Rattle.std.proofs.Common.{◌≡◌, ◌∙◌, refl, ap, sym, subst, ℕ, suc, ◌≤◌, max, ℤ, true, if◌then◌else◌, is_some, List, [], ◌∷◌, ◌++◌, length, Some, arith}
 use Rattle.wrp_network.specs.declared.network.LinkCfg.{LinkCfg}
 use Rattle.wrp_network.specs.Network.{link_above}
@@ -27,7 +27,7 @@ use Rattle.wrp_bound_laws.proofs.Motion.NodeSteps.{still_in_chain}
 use Rattle.wrp_bound_laws.proofs.Motion.Slow.{Slow, as_slow}
 use Rattle.wrp_bound_laws.proofs.Runs.Suffixes.{at_newest, at_rest, older_run, run_before}
 
--- the laws that this stands on
+-- the laws that this rests on
 pub record MoveLaws : Type 0 where
   pub chains : ChainLaws
   pub rates : RateLaws
@@ -89,7 +89,7 @@ chain_passes_slowly laws s h before k link hop run is numbers chain later =
 
 -- The history of a link
 
--- it has a newest moment, and one for each event besides the first
+-- it has a newest moment, and one for each event except the first
 pub record HasNewest (s : Setting) (k : ℕ) (link : LinkCfg) (events : List Happened) : Type 0 where
   pub past : List Moment
   pub is : moments_of s k link events ≡ moment_at k link (world_after s events) ∷ past
@@ -104,7 +104,7 @@ newest_moment s k link (h ∷ before) =
     let it : HasNewest s k link before = newest_moment s k link before in
     record { past = moments_of s k link before; is = refl; length_is = ap length it.is ∙ one_longer (length it.past) (length before) it.length_is }
 
--- what is so in each event from one on is so in each step of the history from there on
+-- what holds in each event from one on holds in each step of the history from there on
 pub nothing_later : {A : Type 0} (P : A → A → Type 0) (k : ℕ) (ms : List A) → length ms ≤ suc k → EachStep P k ms
 nothing_later P k [] h = tt
 nothing_later P k (m ∷ []) h = tt

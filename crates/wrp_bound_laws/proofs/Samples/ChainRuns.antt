@@ -72,7 +72,7 @@ use Rattle.wrp_bound_laws.proofs.Sources.Parents.{IsCalmOf, has_servo, ticked_no
 use Rattle.wrp_bound_laws.proofs.Samples.SampleEvents.{IsNoSampleOf, no_sample_to, stood_before}
 use Rattle.wrp_bound_laws.proofs.Runs.Suffixes.{at_newest, run_before, rest_length}
 
--- the laws that this stands on
+-- the laws that this rests on
 pub record ChainRunLaws : Type 0 where
   pub moves : MoveLaws
   pub unbroken : ChainIsUnbroken
@@ -190,7 +190,7 @@ sampled law s says y before n m base bits same servo =
           ∙ sample_stood law (node_setting_of s n) t (w.node n) number base bits refl servo (subst (λ (x : NodeAt). Stands (run (set_at s n) x.calls)) is chain);
     }
 
--- The tag of a good sample tells the true phase
+-- The tag of a good sample gives the true phase
 
 above_number : (s : Setting) → IsNetwork s → (k : ℕ) (link : LinkCfg) → link_of s k ≡ Some link → above s link.lower ≡ Some k
 above_number s net k link is =
@@ -234,7 +234,7 @@ tag_tells laws s says y before m base bits k tag link hop run fits is numbers sa
 
 -- What is kept of a chain, event by event
 
--- beside its samples: the tags that the servo has taken, and how late the node's last tick can be
+-- in addition to its samples: the tags that the servo has taken, and how late the node's last tick can be
 record Held (s : Setting) (events : List Happened) (k : ℕ) (link : LinkCfg) (hop : HopNumbers) : Type 0 where
   newer : List Happened
   start : Happened
@@ -440,7 +440,7 @@ begin_at laws s h before k link hop tag run is numbers none chain tells told mor
 abbrev Before : Setting → List Happened → ℕ → LinkCfg → HopNumbers → Type 0
 Before s before k link hop = HasChain s link.lower before → Held s before k link hop
 
--- one without a sample of the node
+-- an event without a sample of the node
 other_held : ChainRunLaws → (s : Setting) (h : Happened) (before : List Happened) (k : ℕ) (link : LinkCfg) (hop : HopNumbers) → IsRun s (h ∷ before) → link_of s k ≡ Some link → numbers_of s.cfg link.lower ≡ Some hop → HasChain s link.lower (h ∷ before) →
     IsNoSampleOf link.lower h.event → good_in s link.lower h before h.event ≡ None → Before s before k link hop →
     ((tm : ℤ) → HasChain s link.lower before → ((world_after s before).clock link.lower).ticked ≤ℤ (tm +ℤ pos (since_at s before link.lower * longest_tick s.cfg)) →
@@ -450,7 +450,7 @@ other_held laws s h before k link hop run is numbers chain none good old late =
     let c : Held s before k link hop = old was in
     no_good laws s h before k link hop run is numbers was chain good (other_tags s h before link.lower none (has_tags laws s (h ∷ before) link.lower chain)) c (late c.holds.moment.time was c.late)
 
--- one in which neither tick nor sample of it comes, nor its start
+-- an event in which neither a tick nor a sample of it comes, nor its start
 idle_late : (s : Setting) (h : Happened) (before : List Happened) (n : ℕ) → IsIdleOf n h.event → (tm : ℤ) → ((world_after s before).clock n).ticked ≤ℤ (tm +ℤ pos (since_at s before n * longest_tick s.cfg)) →
     ((world_after s (h ∷ before)).clock n).ticked ≤ℤ (tm +ℤ pos (since_at s (h ∷ before) n * longest_tick s.cfg))
 idle_late s h before n idle tm late =

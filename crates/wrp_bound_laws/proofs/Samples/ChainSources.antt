@@ -1,4 +1,4 @@
--- While a chain of a servo stands its node's lease is fresh, and so its parent may be followed.
+-- While a servo has a chain its node's lease is fresh, and so its parent may be followed.
 use Rattle.std.proofs.Common.{◌≡◌, ◌∙◌, refl, ap, sym, subst, ℕ, Bool, true, false, if◌then◌else◌, is_some, List, [], ◌∷◌, None, Some}
 use Rattle.wrp_node.specs.Laws.{IsSettled, StepSettles}
 use Rattle.wrp_node.specs.NodeAt.{NodeSetting, NodeAt, is_fresh_at, is_fresh_in, servo_at, servo_setting_of, slave_of}
@@ -20,7 +20,7 @@ use Rattle.wrp_bound_laws.proofs.Runs.LinksAbove.{above_at, above_is}
 use Rattle.wrp_bound_laws.proofs.Sources.Parents.{has_servo, has_slave, with_servo}
 use Rattle.wrp_bound_laws.proofs.Runs.Suffixes.{at_newest}
 
--- What the servo was told of the lease is so, after every event
+-- What the servo was given of the lease still holds, after every event
 
 abbrev KnowsLease : NodeSetting → NodeAt → Type 0
 KnowsLease fixed n = lease_told n.calls ≡ is_fresh_in fixed.set n
@@ -61,7 +61,7 @@ knows_lease settles s (h ∷ before) n p slave =
     (λ t m q old. settled_knows (node_setting_of s n) (node_step (node_setting_of s n) t m).node (ap is_some slave) (settles (node_setting_of s n) t m))
     (any_to n h.event) (knows_lease settles s before n p slave)
 
--- the laws that this stands on
+-- the laws that this rests on
 pub record ChainLaws : Type 0 where
   pub lease : LeaseLaws
   pub settles : StepSettles

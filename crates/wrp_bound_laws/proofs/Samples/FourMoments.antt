@@ -25,7 +25,7 @@ use Rattle.wrp_bound_laws.proofs.Sources.LeaseSources.{both_nodes}
 use Rattle.wrp_bound_laws.proofs.Runs.Suffixes.{at_newest, older_run, run_before}
 use Rattle.wrp_bound_laws.proofs.Runs.HopNumbers.{hop_has}
 
--- the laws that this stands on
+-- the laws that this rests on
 pub record MomentLaws : Type 0 where
   pub source : ChainHasSource
   pub near : TicksAreOnTime
@@ -103,7 +103,7 @@ age_fits age dmax life = let h : (age + 1) * dmax ≤ (age + 2) * dmax = mul-le-
 more_time : (now at : ℤ) (a b : ℕ) → now ≤ℤ (at +ℤ pos a) → a ≤ b → now ≤ℤ (at +ℤ pos b)
 more_time now at a b h k = omega (arith, ints)
 
--- a moment of a chain, at most so many ticks of its node ago
+-- a moment of a chain, at most this many ticks of its node ago
 pub record IsTicksAgo (s : Setting) (events : List Happened) (n start age at : ℕ) (w : WorldAt) : Type 0 where
   pub was : Was (worlds_of s events) at w
   pub since : start ≤ at

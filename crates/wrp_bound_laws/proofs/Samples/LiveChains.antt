@@ -51,7 +51,7 @@ since_before law x calls c (d ∷ since) start before h e s n =
     let it : (c ≡ d) × (calls ≡ since ++ start ∷ before) = head_and_tail c d calls (since ++ start ∷ before) e in
     (law x calls).1 (record { since = since; start = start; before = before; splits = it.1; started = s; stays = n.1 })
 
--- a chain that stands after a call that is no sample stood before it
+-- a chain that is there after a call that is no sample was there before it
 pub stood_before : ChainSince → (x : ServoSetting) (calls : List Call) (c : Call) → IsNoSample c → Stands (run x (c ∷ calls)) → Stands (run x calls)
 stood_before law x calls c h stands =
     let s : Since (chain_starts x) (chain_ends x) (c ∷ calls) = (law x (c ∷ calls)).0 stands in

@@ -1,4 +1,4 @@
--- Events that bring a node no sample: its chain stood before them, and it has as many samples as it had.
+-- Events that bring a node no sample: its chain was there before them, and it has as many samples as it had.
 use Rattle.std.proofs.Common.{◌≡◌, inl, inr, ◌∙◌, refl, ap, ℕ, ◌+◌, ◌==◌, ℤ, true, false, if◌then◌else◌, List, [], ◌∷◌}
 use Rattle.std.proofs.lemmas.Bool.Decides.{eqb_tells}
 use Rattle.wrp_base.proofs.Naturals.{eq_self}
@@ -57,7 +57,7 @@ samples_then s h before n =
     let w : WorldAt = world_after s before in
     all_given_samples s h.answer (given_by s w (moved s w h.event) h.says h.event) (moved s w h.event) n
 
--- an event that brings the node no sample, and by which it does not start
+-- an event that brings the node no sample, and in which it does not start
 abbrev pub IsLowOf : ℕ → Event → Type 0
 IsLowOf n (Sample m base bits) = n ≡ m → ⊥
 IsLowOf n (Up m off swaps) = n ≡ m → ⊥

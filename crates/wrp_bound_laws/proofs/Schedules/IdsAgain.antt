@@ -1,4 +1,5 @@
--- Of the messages whose sending is stamped an end puts out one an event at most, and one sequenceId again only late.
+-- An end puts out at most one message in an event whose sending is stamped, and uses the same sequenceId again only
+-- late.
 use Rattle.std.proofs.Common.{◌≡◌, inl, inr, ◌∙◌, refl, ap, sym, subst, ℕ, ◌+◌, ◌*◌, ◌%◌, ◌<◌, ◌≤◌, min, ℤ, pos, ◌+ℤ◌, ◌≤ℤ◌, Bool, true, false, unsigned_abs, List, [], ◌∷◌, ◌++◌, length, Some, Result, arith}
 use Rattle.std.proofs.Math.Nat.{min-le_left, min-le_right, mul-le-mul, mul-le-mul_right}
 use Rattle.std.proofs.lemmas.Int.{ints}

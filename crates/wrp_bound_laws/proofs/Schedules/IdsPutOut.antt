@@ -1,4 +1,5 @@
--- What an event puts out at an end of a link whose sending is stamped: at most one message, by a tick of the end's node.
+-- What an event puts out at an end of a link whose sending is stamped: at most one message, in a tick of the end's
+-- node.
 use Rattle.std.proofs.Common.{◌≡◌, ◌⊎◌, inl, inr, subst, ℕ, ℤ, Some, Result}
 use Rattle.wrp_base.specs.declared.link.Role.{Role}
 use Rattle.wrp_base.specs.declared.message.PtpMsg.{PtpMsg}
@@ -24,7 +25,7 @@ no_timed s v n r p m _ h t = t
 
 -- An event
 
--- it is new, by a tick of the end's node
+-- it is new, in a tick of the end's node
 abbrev pub NewIn : Setting → WorldAt → LinkCfg → Role → Event → Sending → Type 0
 NewIn s w link r e x =
     (e ≡ Tick (end_of r link).node) × PutNow (SentAt (node_setting_of s (end_of r link).node) (w.node (end_of r link).node) r (end_of r link).port TickInput) (moved s w (Tick (end_of r link).node)) x

@@ -1,4 +1,5 @@
--- A node sends a message whose sending is stamped at a tick alone, at most one at a port, with the sequenceId of its count.
+-- A node sends a message whose sending is stamped only at a tick, at most one at a port, with the sequenceId of its
+-- count.
 use Rattle.std.proofs.Common.{◌≡◌, inl, inr, refl, ap, subst, ℕ, Bool, true, List, [], ◌∷◌, map, Result}
 use Rattle.std.specs.List.{AllByRecursion}
 use Rattle.wrp_base.specs.declared.link.Role.{Role}
@@ -70,7 +71,7 @@ no_follow_up : (r : Role) (set : Setting) (seq : ℕ) (stamp : Stamp) → IsTime
 no_follow_up Master set seq stamp t = t
 no_follow_up Slave set seq stamp t = t
 
--- a port at a tick, once the lease and the servo had theirs, sends such a message; at no other input is one sent
+-- a port at a tick, after the tick of the lease and of the servo, sends such a message; at no other input is one sent
 abbrev pub SentAt : NodeSetting → NodeAt → (r : Role) → (p : ℕ) → Input → PtpMsg → Type 0
 SentAt fixed n r p Tick m =
     TickSends (setting_of fixed.set p) r (line_at fixed.set (servo_ticked fixed n).node p) (locked_of fixed (servo_ticked fixed n).node) m

@@ -1,4 +1,4 @@
--- A link that is open stays so at each input, but where it loses its carrier or begins the whole of its quiet time.
+-- A link that is open stays open at each input, unless it loses its carrier or begins the whole of its quiet time.
 use Rattle.std.proofs.Common.{◌≡◌, ◌⊎◌, inl, inr, refl, ap, sym, subst, ℕ, ◌-◌, ◌==◌, nat_lt, Bool, true, false, if◌then◌else◌, [], ◌∷◌, Option, None, Some}
 use Rattle.std.proofs.lemmas.Bool.{eqb-true, false≢true}
 use Rattle.wrp_base.specs.declared.link.LinkState.{LinkState}
@@ -16,7 +16,7 @@ use Rattle.wrp_link.specs.Table.{after, by_row, counted, word_in}
 use Rattle.wrp_port.specs.Hearing.{is_open, is_open_word}
 use Rattle.wrp_bound_laws.proofs.Schedules.Resting.{open_has_carrier}
 
--- How a link that is open is no more
+-- How an open link closes
 
 -- no row enters IDLE
 abbrev GoesOn : Row → Type 0

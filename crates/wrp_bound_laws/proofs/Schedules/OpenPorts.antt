@@ -135,7 +135,7 @@ last_grows apart s h before n run =
           (int_le_trans (w.clock n).ticked w.time now.time (ticked_past apart s before n (run_before s h before run)) (step_time s h.says h.answer w h.event run.each.0))
     ]
 
--- the laws that this stands on
+-- the laws that this rests on
 pub record QuietLaws : Type 0 where
   pub links : StepGivesLinks
   pub ends : EndsAreSet

@@ -1,4 +1,5 @@
--- The counts of a port's schedule while it stays open: its ticks, and the messages of a kind, one each so many ticks.
+-- The counts of a port's schedule while it stays open: its ticks, and the messages of a kind, one for each fixed number
+-- of ticks.
 use Rattle.std.proofs.Common.{◌≡◌, ◌∙◌, refl, ap, sym, ℕ, ◌+◌, ◌*◌, ◌/◌, ◌%◌, ◌<◌, ◌≤◌, ◌==◌, Bool, true, false, if◌then◌else◌, List, ◌∷◌, Option, None, Some, arith}
 use Rattle.std.proofs.Math.Nat.{zero-mod, div-add-mod, mul-le-mul_left, lt_of_mul-lt-mul_left}
 use Rattle.std.proofs.lemmas.Bool.{eqb-true, and_parts}
@@ -22,7 +23,7 @@ use Rattle.wrp_bound_laws.proofs.Schedules.ScheduleTold.{IsAside, KeptIn}
 
 -- The kinds that are stamped: a master's Sync and a slave's Delay_Req
 
--- each so many ticks one comes
+-- the number of ticks from one to the next
 abbrev pub every_of : Role → Sched → ℕ
 every_of Master sched = sched.sync
 every_of Slave sched = sched.delay
@@ -53,7 +54,7 @@ due_in r set told locked certain =
     let next : LinkAt = link_of set (Tick locked certain ∷ told) in
     ap (is_due next) (turn_ticked r set.sched (ticks_open set told) (is_open next) (is_open (link_of set told)))
 
--- where one is due the port is open, and the ticks are a multiple
+-- if one is due the port is open, and the ticks are a multiple
 pub due_at : (l : LinkAt) (turn : ℕ) → is_due l turn ≡ true → (is_open l ≡ true) × (turn ≡ 0)
 due_at l turn e =
     let it : (is_open l ≡ true) × ((turn == 0) ≡ true) = and_parts (is_open l) (turn == 0) e in
@@ -61,7 +62,7 @@ due_at l turn e =
 
 -- Since a message of the kind
 
--- so many ticks later: no more messages than one each so many
+-- this many ticks later: at most one message for every `every` ticks
 pub record Gone (set : Setting) (every t0 s0 d : ℕ) (told : List PortIn) : Type 0 where
   pub more : ℕ
   pub ticks : ticks_open set told ≡ t0 + d
@@ -112,7 +113,7 @@ aside_gone set every t0 s0 d told (Sent delay seq stamp tick) c h = absurd c
 aside_gone set every t0 s0 d told (Carrier up own_module) c h = absurd c
 aside_gone set every t0 s0 d told Reset c h = absurd c
 
--- a multiple past one that is at least so far is the next at least
+-- a multiple that lies past this many steps is at least one step further
 pub next_multiple : (every t0 d more : ℕ) → t0 % every ≡ 0 → (t0 + (d + 1)) % every ≡ 0 → more * every ≤ d → (more + 1) * every ≤ d + 1
 next_multiple every t0 d more e f few =
     let a : ℕ = t0 / every in

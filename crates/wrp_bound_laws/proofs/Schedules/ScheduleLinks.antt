@@ -1,4 +1,4 @@
--- A port's link that is closed, as it has no carrier or is in quiet time, opens by a tick alone.
+-- A port's link that is closed, because it has no carrier or is in quiet time, is opened only by a tick.
 use Rattle.std.proofs.Common.{◌≡◌, ◌⊎◌, inl, inr, ◌∙◌, refl, ap, sym, subst, ℕ, zero, suc, ◌<◌, ◌*◌, ◌-◌, ◌==◌, ◌&&◌, Bool, true, false, if◌then◌else◌, is_some, List, [], ◌∷◌, Option, None, Some, arith}
 use Rattle.std.proofs.lemmas.Bool.{false≢true, true≢false}
 use Rattle.wrp_base.specs.declared.link.LinkState.{LinkState}

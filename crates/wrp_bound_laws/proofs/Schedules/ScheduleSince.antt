@@ -53,7 +53,7 @@ some_quiet s q net =
     subst (λ (x : NodeSet). 0 < (setting_of x q.port).link.quiet) (sym (net.set q.node))
     (quiet_some (unsigned_abs s.cfg.quiet) (frame_life s.cfg) (shortest_tick s.cfg) net.accepted.inequalities.quiet_time)
 
--- Since a message of a kind that comes each so many ticks
+-- Since a message of a kind that comes once in a fixed number of ticks
 
 -- the ticks and the messages that were counted then, and the true time
 pub record Beginning : Type 0 where
@@ -62,7 +62,7 @@ pub record Beginning : Type 0 where
   pub sent : ℕ
   pub at : ℤ
 
--- so many ticks later: no more messages than one each so many, and no sooner than the ticks take
+-- this many ticks later: at most one message for every `every` ticks, and no sooner than the ticks take
 pub record Later (s : Setting) (q : PortOf) (b : Beginning) (d : ℕ) (w : WorldAt) : Type 0 where
   pub gone : Gone (set_at s q) b.every b.ticks b.sent d (told_in q w)
   pub late : (b.at +ℤ pos (d * shortest_tick s.cfg)) ≤ℤ (w.clock q.node).ticked
@@ -84,7 +84,7 @@ tick_longer at was now d dmin h k =
     sum : (at was now : ℤ) (p q dmin : ℕ) → q ≡ p + dmin → (was +ℤ pos dmin) ≤ℤ now → (at +ℤ pos p) ≤ℤ was → (at +ℤ pos q) ≤ℤ now
     sum at was now p q dmin e h k = omega (arith, ints, e, h, k)
 
--- one by which the node does not tick
+-- an event in which the node does not tick
 calm_later : TicksAreApart → (s : Setting) (q : PortOf) (b : Beginning) (d : ℕ) (h : Happened) (before : List Happened) → IsRun s (h ∷ before) → IsNoTickOf q.node h.event → IsOpen s q (h ∷ before) →
     Later s q b d (world_after s before) → Later s q b d (world_after s (h ∷ before))
 calm_later apart s q b d h before run none takes it =
@@ -104,7 +104,7 @@ calm_later apart s q b d h before run none takes it =
 abbrev pub tick_taken : ℤ → ℕ → Taken
 tick_taken y n = taken_of y (given_plain n TickInput)
 
--- what the port was told when the lease and the servo had their tick
+-- what the port was given when the lease and the servo had their tick
 abbrev pub told_then : Setting → PortOf → WorldAt → List PortIn
 told_then s q w = (servo_ticked (node_setting_of s q.node) (w.node q.node)).node.told q.port
 

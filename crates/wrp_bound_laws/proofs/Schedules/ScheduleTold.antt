@@ -1,4 +1,4 @@
--- What a step of a node adds to what its ports were told.
+-- What a step of a node adds to what its ports were given.
 use Rattle.std.proofs.Common.{◌≡◌, ℕ, List, ◌∷◌, Some}
 use Rattle.wrp_node.specs.declared.interface.Input.{Input}
 use Rattle.wrp_node.specs.declared.interface.Input.TheVariants.{Tick, Sample as SampleInput, Frame, Sent, Carrier, Reset}
@@ -12,7 +12,7 @@ use Rattle.wrp_bound_laws.proofs.Nodes.Inputs.{IsNoTick}
 use Rattle.wrp_bound_laws.proofs.Schedules.ScheduleLinks.{IsNoTickThere}
 use Rattle.wrp_bound_laws.proofs.Nodes.StepTold.{KeptByNews, before_tick, carrier_told, frame_told, out_told, sample_told, sent_told, settled_told, tick_told}
 
--- what a port is told beside the input itself: a turn of its lease, and what the servo answers
+-- what a port is given in addition to the input itself: a turn of its lease, and what the servo answers
 abbrev pub IsAside : PortIn → Type 0
 IsAside Lease = Unit {0}
 IsAside (Sample number phase) = Unit {0}

@@ -1,4 +1,4 @@
--- A node sends an Announce that tells of a certain time at a tick alone, in TRACK or as the grandmaster.
+-- A node sends an Announce of a certain time only at a tick, in TRACK or as the grandmaster.
 use Rattle.std.proofs.Common.{◌≡◌, refl, ℕ, Bool, true, false, List, Result, bit_and}
 use Rattle.std.specs.List.{AllByRecursion}
 use Rattle.wrp_base.specs.declared.link.Role.{Role}

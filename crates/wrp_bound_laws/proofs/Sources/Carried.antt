@@ -26,7 +26,7 @@ use Rattle.wrp_port.specs.History.{input_unless, link_by, link_inputs, link_of, 
 use Rattle.wrp_course.proofs.RunLinks.{counted_carrier}
 use Rattle.wrp_bound_laws.proofs.Schedules.Resting.{open_has_carrier}
 
--- Inputs of a link by which no carrier goes
+-- Inputs of a link with which no carrier goes
 
 lit_row : (l : LinkAt) (input : LinkIn) (row : Row) → RowFits l.role l.state l input row → (input ≡ link.CarrierDown → ⊥) → l.carrier ≡ true → (by_row l row).carrier ≡ true
 lit_row l input NoRow f out e = e
@@ -59,7 +59,7 @@ heard_by true true false takes e = absurd (false≢true e)
 heard_by true false addressed takes e = absurd (false≢true e)
 heard_by false source addressed takes e = absurd (false≢true e)
 
--- came from the peer of a port that takes messages, and is one by which a role's lease is renewed
+-- it came from the peer of a port that takes messages, and renews the lease of that role
 pub record Renews (set : Setting) (l : LinkAt) (m : PtpMsg) : Type 0 where
   pub of_peer : is_port m.head.source set.ds.peer ≡ true
   pub takes : is_open l ≡ true
@@ -72,7 +72,7 @@ renewing set l m e =
     heard_by (m.head.domain == set.own.domain) (is_port m.head.source set.ds.peer) (is_addressed set.ds m.body) (is_open l) it.0 in
     record { of_peer = heard.0; takes = heard.1; renews = it.1 }
 
--- what a port was told
+-- what a port was given
 
 no_loss : (set : Setting) (role : Role) (reason : Option Reason) (body : Body) → input_unless reason (link_input role body) ≡ Some link.CarrierDown → ⊥
 no_loss set role (Some reason) body e = cc

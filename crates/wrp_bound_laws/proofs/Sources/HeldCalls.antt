@@ -80,7 +80,7 @@ held_since law x calls c i (d ∷ since) e some =
 pub held_before : HoldoverSince → (x : ServoSetting) (calls : List Call) (c : Call) → 0 < x.set.holdover → is_holdover (run x (c ∷ calls)).state ≡ true → (is_track (run x calls).state ≡ true) ⊎ (is_holdover (run x calls).state ≡ true)
 held_before law x calls c some e = let i : InHoldover x (c ∷ calls) = (law x (c ∷ calls) some).0 e in held_since law x calls c i i.since refl some
 
--- A servo in HOLDOVER, which it entered so many ticks ago
+-- A servo in HOLDOVER, which it entered this many ticks ago
 
 pub record OnHold (v : Core) (t : ℕ) : Type 0 where
   pub state : v.state ≡ Holdover
@@ -131,7 +131,7 @@ abbrev pub IsNoReset : Call → Type 0
 IsNoReset CallReset = ⊥
 IsNoReset _ = Unit {0}
 
--- either TRACK stands, or it is on hold since now
+-- it is either in TRACK, or on hold since now
 abbrev pub TracksOrHolds : Core → Type 0
 TracksOrHolds v = (is_track v.state ≡ true) ⊎ OnHold v 0
 
@@ -206,7 +206,7 @@ first_of (Some m) e = (m, refl)
 as_tracker : (v : Core) (m : ℕ) → v.state ≡ Track → v.first ≡ Some m → v ≡ tracker v m
 as_tracker v m e f = λ i. record v { state = e i; first = f i }
 
--- from TRACK no other way leads than to HOLDOVER, but a reset
+-- a servo in TRACK leaves it only to HOLDOVER, unless it is reset
 pub tracked_holds : TrackHasChain → (x : ServoSetting) (calls : List Call) (c : Call) → IsNoReset c → is_track (run x calls).state ≡ true → TracksOrHolds (run x (c ∷ calls))
 tracked_holds law x calls c r e =
     let v : Core = run x calls in
@@ -278,7 +278,7 @@ on_hold laws x calls some h =
       i.few_ticks,
     )
 
--- it stands so for one number of ticks
+-- this holds for only one number of ticks
 pub one_hold : (v : Core) (a b : ℕ) → OnHold v a → OnHold v b → a ≡ b
 one_hold v a b h k = same v.ticks v.left_tick a b h.ticks k.ticks
   where

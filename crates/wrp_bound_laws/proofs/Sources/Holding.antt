@@ -14,7 +14,7 @@ use Rattle.wrp_servo.proofs.HoldoverLaws.{more as some_more}
 
 -- Lists of calls
 
--- one call more at both of two lists
+-- one call more in both of two lists
 both_more : (call : Call) (calls others : List Call) → ticks_among calls ≤ ticks_among others → ticks_among (call ∷ calls) ≤ ticks_among (call ∷ others)
 both_more CallTick calls others h = omega arith
 both_more (CallSample n base bits) calls others h = h
@@ -26,7 +26,7 @@ both_more CallReset calls others h = h
 
 -- The servo since it was in TRACK
 
--- it is in TRACK, or left it no more ticks ago
+-- it is in TRACK, or left it no more than this many ticks ago
 abbrev Stands : ServoSetting → List Call → ℕ → Type 0
 Stands x calls ticks = (is_track (run x calls).state ≡ true) ⊎ ((i : InHoldover x calls) × (ticks_among i.since ≤ ticks))
 

@@ -46,7 +46,7 @@ use Rattle.wrp_bound_laws.proofs.Frames.Sendings.{PutOutIn, WasPut, certain_in, 
 use Rattle.wrp_bound_laws.proofs.Nodes.StepLeases.{turns_at, turns_before}
 use Rattle.wrp_bound_laws.proofs.Runs.Suffixes.{at_each, at_newest, at_rest, older_run, run_before, rest_length}
 
--- the laws that this stands on
+-- the laws that this rests on
 pub record LeaseLaws : Type 0 where
   pub quiet : QuietLaws
   pub put : FramesWerePutOut
@@ -62,7 +62,7 @@ both_nodes s w k link is c =
 
 -- The lease
 
--- the Announce by which a lease of so many turns was renewed last, and how late the last tick of its node can be
+-- the Announce with which a lease of this many turns was renewed last, and how late the last tick of its node can be
 record Held (s : Setting) (events : List Happened) (k : ℕ) (link : LinkCfg) (turns : ℕ) : Type 0 where
   announce : Sending
   renewed : last_renewal s k link events ≡ Some announce
@@ -303,7 +303,7 @@ source_by laws s a b older k link x (Some up) run is certain put carried soon ab
     before_end x.at (w.clock link.upper).ticked now.time (frame_life s.cfg) (unsigned_abs s.cfg.lease) (longest_tick s.cfg) ((unsigned_abs s.cfg.holdover - 1) * shortest_tick s.cfg) c2
     (int_le_trans (w.clock link.upper).ticked w.time now.time (ticked_past laws.quiet.apart s (b ++ older) link.upper was) (time_never_falls s a (b ++ older) run)) soon late)
 
--- Where the lease is fresh
+-- When the lease is fresh
 
 fresh_turns : (lease : ℕ) (o : Option ℕ) → is_fresh_by lease o ≡ true → (turns : ℕ) × (o ≡ Some turns) × (turns < lease)
 fresh_turns lease None e = absurd (let f : false ≡ true = e in cc)

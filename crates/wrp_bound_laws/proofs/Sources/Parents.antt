@@ -1,5 +1,5 @@
--- A node that put out an Announce of a certain time may be followed until the ticks of HOLDOVER have passed, while a link
--- of its has its carrier.
+-- A node that put out an Announce of a certain time may be followed until the ticks of HOLDOVER have passed, while a
+-- link of the node has its carrier.
 use Rattle.std.proofs.Common.{◌≡◌, inl, inr, ◌∙◌, refl, ap, sym, subst, ℕ, ◌==◌, ◌*◌, ◌-◌, ◌<◌, ℤ, pos, ◌+ℤ◌, ◌≤ℤ◌, Bool, true, false, if◌then◌else◌, not, unsigned_abs, is_some, List, ◌∷◌, Some, option_map, Result}
 use Rattle.std.proofs.lemmas.Bool.Decides.{eqb_tells}
 use Rattle.wrp_base.specs.declared.link.ServoState.{ServoState}
@@ -60,7 +60,7 @@ kept_by s n at ticked calls call calm f = follows_calm (servo_setting_of (node_s
 calm_step : (s : Setting) (n : ℕ) (at ticked : ℤ) (t : Taken) (m : NodeAt) → IsCalm t.input → FollowedAt s n at ticked m → FollowedAt s n at ticked (node_step (node_setting_of s n) t m).node
 calm_step s n at ticked t m calm f = calls_kept (Followed (servo_setting_of (node_setting_of s n)) (shortest_tick s.cfg) at ticked) (kept_by s n at ticked) (node_setting_of s n) t m calm f
 
--- an event by which the node neither ticks nor starts
+-- an event in which the node neither ticks nor starts
 abbrev pub IsCalmOf : ℕ → Event → Type 0
 IsCalmOf n (Tick m) = n ≡ m → ⊥
 IsCalmOf n (Up m off swaps) = n ≡ m → ⊥

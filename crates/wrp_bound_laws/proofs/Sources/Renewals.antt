@@ -118,7 +118,7 @@ noise_turns s says y w n p octets raw link turns slave a =
 
 -- A frame that is handed over
 
--- the Announce that it is, where it renews the lease
+-- the Announce that it is, if it renews the lease
 abbrev Renewing : Setting → WorldAt → ℕ → LinkCfg → Option FrameAt → Type 0
 Renewing s w k link o = (x : Sending) × (renewed_by s w k link o ≡ Some x)
 
@@ -178,7 +178,7 @@ frame_turns : (s : Setting) → IsNetwork s → (y : ℤ) (w v : WorldAt) (k : �
 frame_turns s net y w v k link turns None slave is same h = inl h
 frame_turns s net y w v k link turns (Some f) slave is same h = arrival_turns s net y w v k link turns f f.arrival slave is same h
 
--- where it does not renew the lease, that is as it was
+-- if it does not renew the lease, the lease is as it was
 pub deliver_turns : (s : Setting) → IsNetwork s → (says : Result PtpMsg FrameFault) (y : ℤ) (w : WorldAt) (i k : ℕ) (link : LinkCfg) (turns : ℕ) → slave_of (s.set link.lower) ≡ Some link.lower_port → link_of s k ≡ Some link →
     renewal_in s w k link (Deliver i) ≡ None → turns_in s (world_step s says y w (Deliver i)) link ≡ Some turns → turns_in s w link ≡ Some turns
 deliver_turns s net says y w i k link turns slave is none h =

@@ -1,4 +1,4 @@
--- A frame that arrives once the lease was renewed departed after the Announce that renewed it.
+-- A frame that arrives after the lease was renewed departed after the Announce that renewed it.
 use Rattle.std.proofs.Common.{◌≡◌, ◌⊎◌, inl, inr, ◌∙◌, refl, ap, sym, subst, ℕ, ◌+◌, ◌<◌, ◌≤◌, ◌==◌, ◌&&◌, ◌||◌, nat_lt, ℤ, Bool, true, false, if◌then◌else◌, List, [], ◌∷◌, ◌++◌, length, Option, None, Some, option_map, Result, arith}
 use Rattle.std.proofs.lemmas.Bool.{eqb-true, false≢true}
 use Rattle.std.specs.Option.{option_or}
@@ -67,7 +67,7 @@ had_arrived s w i f (Some a) h = (a, refl)
 
 -- A frame is kept
 
--- but that it may arrive, or be gone
+-- except that it may arrive, or be gone
 abbrev KeptAs : FrameAt → Option FrameAt → Type 0
 KeptAs f None = ⊥
 KeptAs f (Some g) = (g.link ≡ f.link) × (g.by ≡ f.by) × (g.sending ≡ f.sending) × (g.moment ≡ f.moment) × ((a : Arrival) → f.arrival ≡ Some a → g.arrival ≡ Some a)
@@ -136,7 +136,7 @@ rest_length : (a : List Happened) (x : Happened) (b : List Happened) → length 
 rest_length [] x b = omega arith
 rest_length (y ∷ a) x b = let h : length b + 1 ≤ length (a ++ x ∷ b) = rest_length a x b in omega (arith, h)
 
--- the arrivals of two frames of which one is behind the other
+-- the arrivals of two frames of which one is before the other
 arrives_first : (o p : Option Arrival) (a b : Arrival) → o ≡ Some a → p ≡ Some b → IfSome o (λ x. IfSome p (λ y. x.moment < y.moment)) → a.moment < b.moment
 arrives_first (Some x) (Some y) a b e f h = subst (λ z. z.moment < b.moment) (same_Some x a e) (subst (λ z. x.moment < z.moment) (same_Some y b f) h)
 arrives_first None p a b e f h = absurd (none-some a e)

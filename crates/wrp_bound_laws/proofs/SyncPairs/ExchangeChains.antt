@@ -1,4 +1,4 @@
--- A chain stands in the exchange of a node's slave port only where one stands in the node's servo.
+-- The exchange of a node's slave port has a chain only if the node's servo has one.
 use Rattle.std.proofs.Common.{◌≡◌, ◌∙◌, refl, ap, sym, subst, ℕ, ◌==◌, ℤ, Bool, true, false, if◌then◌else◌, is_some, List, [], ◌∷◌, Option, None, Some, option_map, Result, Ok, Err}
 use Rattle.std.proofs.lemmas.Bool.{false≢true}
 use Rattle.std.proofs.lemmas.Option.{none-some}
@@ -53,13 +53,13 @@ use Rattle.wrp_bound_laws.proofs.SyncPairs.SyncCalls.{IsWithin, first_stays}
 use Rattle.wrp_bound_laws.proofs.SyncPairs.SyncGiven.{slave_at}
 use Rattle.wrp_bound_laws.proofs.SyncPairs.SyncTold.{lease_there, news_told, there}
 
--- What a slave port is told
+-- What a slave port is given
 
--- a chain stands in its exchange
+-- its exchange has a chain
 abbrev InPort : PortSetting → List PortIn → Type 0
 InPort set told = is_some (first_sample (calls_of set told)) ≡ true
 
--- it is told neither of the chain nor to start anew
+-- it is given neither news of the chain nor a new start
 abbrev IsPlain : PortIn → Type 0
 IsPlain (Chain news) = ⊥
 IsPlain PortReset = ⊥
@@ -109,7 +109,7 @@ sample_stays : (set : PortSetting) (o : Option ℤ) (number : ℕ) (told : List 
 sample_stays set None number told = refl
 sample_stays set (Some phase) number told = plain_stays set (PortSample number phase) told tt
 
--- the news of the chain: it is told where one ends
+-- the news of the chain: it is given when one ends
 ended_none : (role : Role) (calls : List Piece) → role ≡ Slave → is_some (first_sample (with_call (only_slave role (Some CallClear)) calls)) ≡ true → ⊥
 ended_none Slave calls e h = false≢true h
 ended_none Master calls e h = absurd cc
@@ -122,7 +122,7 @@ after_news set (Some m) (Some n) told slave was now = refl
 
 -- A node
 
--- a chain stands in the exchange of its slave port only where one stands in its servo
+-- the exchange of its slave port has a chain only if its servo has one
 abbrev pub ChainsAgree : NodeSetting → ℕ → NodeAt → Type 0
 ChainsAgree fixed p n = InPort (setting_of fixed.set p) (n.told p) → Stands (run (servo_setting_of fixed) n.calls)
 
@@ -140,7 +140,7 @@ chain_told x v (CallLink on) = refl
 chain_told x v (CallCarrier up) = refl
 chain_told x v CallReset = refl
 
--- its servo is told something
+-- its servo is given something
 tell_agrees : (fixed : NodeSetting) (p : ℕ) → IsSlavePort fixed p → (call : Option Call) (s : Step) → ChainsAgree fixed p s.node → ChainsAgree fixed p (tell fixed call s).node
 tell_agrees fixed p at None s was now =
     was (subst (InPort (setting_of fixed.set p)) (there (slave_of fixed.set) (answer_of fixed None s.node.calls) 0 s.node.told p at.port) now)
@@ -161,7 +161,7 @@ settled_agrees fixed p at s was =
     let w : Step = with_lease fixed s in
     tell_agrees fixed p at (link_change fixed w.node) w (tell_agrees fixed p at (lease_change fixed s.node) s was)
 
--- one port of it is told something
+-- one of its ports is given something
 told_agrees : (fixed : NodeSetting) (p : ℕ) (b : Bool) (input : PortIn) (n : NodeAt) → IsPlain input → ChainsAgree fixed p n → InPort (setting_of fixed.set p) (if b then input ∷ n.told p else n.told p) → Stands (run (servo_setting_of fixed) n.calls)
 told_agrees fixed p true input n plain was now = was (sym (ap is_some (plain_stays (setting_of fixed.set p) input (n.told p) plain)) ∙ now)
 told_agrees fixed p false input n plain was now = was now
@@ -255,7 +255,7 @@ last_in_chain ring (CallReqOut seq ∷ calls) held e = last_in_chain ring calls 
 last_in_chain ring (CallReqSent seq t3 tick ∷ calls) held e = last_in_chain ring calls held e
 last_in_chain ring (CallResp seq t4 ∷ calls) held e = last_in_chain ring calls held e
 
--- a Sync that pends is the last one that was kept
+-- a Sync that is pending is the last one that was kept
 pends_last : (ring : ℕ) (calls : List Piece) (o : Option HeldSync) (held : HeldSync) → option_and_then (λ (s : HeldSync). if is_followed ring s.seq calls then None else Some s) o ≡ Some held → o ≡ Some held
 pends_last ring calls None held e = absurd (none-some held e)
 pends_last ring calls (Some s) held e = unless (is_followed ring s.seq calls) e
@@ -274,7 +274,7 @@ request_first : (o : Option ℕ) (seq id : ℕ) → option_map (λ (first : ℕ)
 request_first None seq id e = absurd (none-some id e)
 request_first (Some first) seq id e = refl
 
--- nor does a request stand without a chain
+-- nor is a request open without a chain
 pub request_in_chain : (calls : List Piece) (id : ℕ) → last_request calls ≡ Some id → is_some (first_sample calls) ≡ true
 request_in_chain [] id e = absurd (none-some id e)
 request_in_chain (CallStart first ∷ calls) id e = refl

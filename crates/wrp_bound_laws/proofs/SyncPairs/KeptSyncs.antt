@@ -1,5 +1,5 @@
--- Each Sync that a slave's exchange kept in a chain departed no sooner than the Announce was put out by which the lease had been
--- renewed when the chain began.
+-- Each Sync that a slave's exchange kept in a chain departed no sooner than the parent put out the Announce that had
+-- last renewed the lease when the chain began.
 use Rattle.std.proofs.Common.{◌≡◌, ◌∙◌, refl, ap, sym, subst, ℕ, ◌≤◌, List, [], ◌∷◌, ◌++◌, length, Option, None, Some}
 use Rattle.std.specs.Prelude.{IfSome}
 use Rattle.wrp_base.specs.declared.link.Role.TheVariants.{Master}
@@ -94,7 +94,7 @@ if_held : (P : HeldSync → Type 0) (o : Option HeldSync) → ((held : HeldSync)
 if_held P None f = tt
 if_held P (Some held) f = f held refl
 
--- once each event of the chain had come
+-- after each event of the chain
 sync_then : HeldLaws → (s : Setting) (k : ℕ) (link : LinkCfg) (hop : HopNumbers) (newer : List Happened) (start : Happened) (before : List Happened) → InRun s k link newer start before → AllFit (newer ++ start ∷ before) → numbers_of s.cfg link.lower ≡ Some hop →
     (f : FollowsSource s (start ∷ before) k link) → SyncDepartedSince s k link (length f.older) (newer ++ start ∷ before)
 sync_then laws s k link hop newer start before x fit numbers f =

@@ -1,5 +1,5 @@
--- The Sync that pends in a slave's exchange, while its sample is in the ring, and each Follow_Up of its sequenceId that can still be
--- delivered are of one Sync.
+-- The Sync that is pending in a slave's exchange, while its sample is in the ring, and each Follow_Up of its sequenceId
+-- that can still be delivered are of one Sync.
 use Rattle.std.proofs.Common.{◌≡◌, ◌∙◌, ap, sym, subst, ℕ, ◌+◌, pos, ◌+ℤ◌, ◌≤ℤ◌, true, is_some, List, [], ◌∷◌, ◌++◌, length, Some, arith}
 use Rattle.std.proofs.lemmas.Option.{same_Some}
 use Rattle.wrp_base.specs.declared.link.Role.TheVariants.{Master}
@@ -39,7 +39,7 @@ use Rattle.wrp_bound_laws.proofs.Hops.TrackedHops.{has_hop}
 
 -- The Sync
 
--- a Sync that pends, and the event that handed it over
+-- a Sync that is pending, and the event that handed it over
 record Pending (s : Setting) (events : List Happened) (k : ℕ) (link : LinkCfg) (held : HeldSync) : Type 0 where
   hop : HopNumbers
   gap : List Happened

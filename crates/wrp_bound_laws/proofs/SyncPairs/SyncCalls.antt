@@ -26,7 +26,7 @@ IsWithin (Some (CallStart first)) = ⊥
 IsWithin (Some CallClear) = ⊥
 IsWithin _ = Unit {0}
 
--- the call is a Sync, which is kept so
+-- the call is a Sync, which is kept like this
 pub record Keeps (ring : ℕ) (calls : List Call) (o : Option Call) (held : HeldSync) : Type 0 where
   pub seq : ℕ
   pub correction : ℤ

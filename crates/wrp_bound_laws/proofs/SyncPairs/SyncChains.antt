@@ -26,15 +26,15 @@ use Rattle.wrp_bound_laws.proofs.Runs.Suffixes.{at_newest, run_before}
 use Rattle.wrp_bound_laws.proofs.SyncPairs.SyncGiven.{GivenLaws}
 use Rattle.wrp_bound_laws.proofs.Samples.SampleEvents.{IsLowOf, low_stay, sampled_samples, samples_then}
 
--- the laws that this stands on
+-- the laws that this rests on
 pub record SyncChainLaws : Type 0 where
   pub given : GivenLaws
   pub chains : ChainLaws
   pub constant : ChainHasConstant
 
--- A chain that stands
+-- A chain that is there
 
--- it began in an event, and stands since
+-- it began in an event, and is there since
 pub record Standing (s : Setting) (link : LinkCfg) (newer : List Happened) (start : Happened) (before : List Happened) : Type 0 where
   pub stands : AtEach (HasChain s link.lower) newer (start ∷ before)
   pub begins : HasChain s link.lower before → ⊥
@@ -42,7 +42,7 @@ pub record Standing (s : Setting) (link : LinkCfg) (newer : List Happened) (star
 pub stands_now : (s : Setting) (link : LinkCfg) (newer : List Happened) (start : Happened) (before : List Happened) → Standing s link newer start before → HasChain s link.lower (newer ++ start ∷ before)
 stands_now s link newer start before x = at_newest (HasChain s link.lower) newer (start ∷ before) x.stands
 
--- in one event alone
+-- only in one event
 pub one_start : (s : Setting) (link : LinkCfg) (newer other : List Happened) (start first : Happened) (before earlier : List Happened) → newer ++ start ∷ before ≡ other ++ first ∷ earlier → Standing s link newer start before → Standing s link other first earlier →
     (newer ≡ other) × ((start ≡ first) × (before ≡ earlier))
 one_start s link [] [] start first before earlier e x y = (refl, head_and_tail start first before earlier e)
@@ -132,7 +132,7 @@ good_event s says y before other n g e = absurd (none-some g e)
 pub brings_good : (s : Setting) (h : Happened) (before : List Happened) (n : ℕ) (g : Good) → good_in s n h before h.event ≡ Some g → BringsGood s h before n g
 brings_good s h before n g e = good_event s h.says h.answer before h.event n g e
 
--- those of the newer events alone
+-- the good samples of the newer events alone
 abbrev pub goods_in : Setting → ℕ → (newer older : List Happened) → List Good
 goods_in s n [] older = []
 goods_in s n (h ∷ newer) older = option_to_list (good_in s n h (newer ++ older) h.event) ++ goods_in s n newer older

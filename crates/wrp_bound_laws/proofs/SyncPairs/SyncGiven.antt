@@ -1,4 +1,4 @@
--- What an event adds to the calls of the exchange below a link, while a chain of the servo there stands.
+-- What an event adds to the calls of the exchange below a link, while the servo there has a chain.
 use Rattle.std.proofs.Common.{◌≡◌, inl, inr, ◌∙◌, refl, ap, sym, subst, ℕ, ◌==◌, ℤ, Bool, true, false, if◌then◌else◌, List, [], ◌∷◌, Option, None, Some, Result, Ok, Err}
 use Rattle.std.proofs.lemmas.Bool.Decides.{eqb_tells}
 use Rattle.std.specs.Option.{option_map_or}
@@ -57,14 +57,14 @@ use Rattle.wrp_bound_laws.proofs.Sources.Parents.{has_slave, ticked_node}
 use Rattle.wrp_bound_laws.proofs.SyncPairs.SyncTold.{Adds, AddsOther, IsOther, carrier_adds, frame_adds, frame_passes, frame_piece, sent_adds, tick_adds}
 use Rattle.wrp_bound_laws.specs.SequenceIds.{IsTimed}
 
--- the laws that this stands on
+-- the laws that this rests on
 pub record GivenLaws : Type 0 where
   pub since : ChainSince
   pub phase : PhaseMovesByTags
 
 -- A frame of the master that the slave's port takes
 
--- the reception's stamp, of a frame that arrived so
+-- the stamp of the reception of a frame that arrived like this
 abbrev pub received_stamp : Setting → WorldAt → LinkCfg → Arrival → Stamp
 received_stamp s w link a = stamp_of (node_setting_of s link.lower) (w.node link.lower) link.lower_port a.raw a.sample
 
@@ -143,14 +143,14 @@ nothing_grown s before h k link node g e = record { piece = None; adds = e; come
 other_grown : (s : Setting) (before : List Happened) (h : Happened) (k : ℕ) (link : LinkCfg) (node : NodeAt) (o : Option Piece) → IsOther o → NoGood s before h link → pieces_at (s.set link.lower) node link.lower_port ≡ with_call o (exchange_at s link before) → Grown s before h k link node
 other_grown s before h k link node o i g e = record { piece = o; adds = e; comes = other_comes s before h k link o i g }
 
--- a chain stands in a node
+-- a node has a chain
 abbrev pub ChainIn : Setting → LinkCfg → NodeAt → Type 0
 ChainIn s link node = Stands (run (servo_setting_of (node_setting_of s link.lower)) node.calls)
 
 pub slave_at : (s : Setting) → IsNetwork s → (k : ℕ) (link : LinkCfg) → link_of s k ≡ Some link → slave_of (s.set link.lower) ≡ Some link.lower_port
 slave_at s net k link is = has_slave s net link.lower link (above_is s net k link is)
 
--- Events that give the node no input, or none but carriers
+-- Events that give the node no input, or only carriers
 
 abbrev IsCarrier : Input → Type 0
 IsCarrier (Carrier p up own_module) = Unit {0}

@@ -88,7 +88,7 @@ two_lives now at arrived life h k = omega (arith, ints)
 one_sooner : (a b c first : ℕ) → first ≡ b + 1 → first ≤ a → a ≡ c → c ≤ b → ⊥
 one_sooner a b c first e h f k = omega (arith, e, h, f, k)
 
--- where it was handed over, it arrived, and it had its carrier since
+-- if it was handed over, it arrived, and it had its carrier since
 record Came (s : Setting) (k : ℕ) (link : LinkCfg) (events : List Happened) (f : FrameAt) (a : Arrival) : Type 0 where
   newer : List Happened
   older : List Happened
@@ -101,7 +101,7 @@ record Came (s : Setting) (k : ℕ) (link : LinkCfg) (events : List Happened) (f
   end_is : end_at s f.link (other_of f.by) ≡ Some end
   raw : KeepsStamp s (world_after s older) f a.raw end
 
--- the laws that this stands on
+-- the laws that this rests on
 pub record FlightLaws : Type 0 where
   pub quiet : QuietLaws
   pub stamped : FramesAreStamped

@@ -1,4 +1,4 @@
--- A Sync that the exchange holds in a chain tells the chain's constant with the stamp of its own departure.
+-- A Sync that the exchange holds in a chain gives the chain's constant with the stamp of its own departure.
 use Rattle.std.proofs.Common.{◌≡◌, inl, inr, ◌∙◌, refl, ap, sym, subst, ℕ, suc, ◌+◌, ◌<◌, ◌≤◌, ℤ, pos, ◌+ℤ◌, ◌-ℤ◌, ◌≤ℤ◌, unsigned_abs, true, List, [], ◌∷◌, ◌++◌, length, Some, IfSome, arith}
 use Rattle.std.proofs.lemmas.Int.{ints}
 use Rattle.std.specs.List.{AllByRecursion}
@@ -44,7 +44,7 @@ use Rattle.wrp_bound_laws.proofs.SyncPairs.SyncSamples.{Begun, sample_of}
 use Rattle.wrp_bound_laws.proofs.Frames.ArrivalStamps.{Arrived, StampLaws, stamp_near}
 use Rattle.wrp_bound_laws.proofs.Runs.HopNumbers.{HopHas, hop_has}
 
--- the laws that this stands on
+-- the laws that this rests on
 pub record HeldLaws : Type 0 where
   pub chain : SyncChainLaws
   pub flight : FlightLaws
@@ -161,7 +161,7 @@ enough a b xs x ys e = let h : length (x ∷ ys) ≤ length (xs ++ x ∷ ys) = l
     longer [] ys = omega arith
     longer (z ∷ zs) ys = let h : length ys ≤ length (zs ++ ys) = longer zs ys in omega (arith, h)
 
--- the good sample tells the constant
+-- the good sample gives the constant
 good_tells : (s : Setting) (events : List Happened) (k : ℕ) (link : LinkCfg) (hop : HopNumbers) (chain : ChainRuns s events k link hop) (front older : List Happened) → chain.newer ≡ front ++ older → (r : Recent s k link hop older chain.start chain.before) →
     GoodTells hop (moments_of s k link events) (length (chain.start ∷ chain.before)) chain.constant r.newest
 good_tells s events k link hop chain front older e r =

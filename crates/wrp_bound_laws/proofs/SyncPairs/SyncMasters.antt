@@ -25,7 +25,7 @@ use Rattle.wrp_bound_laws.proofs.Runs.Suffixes.{at_newest, run_before}
 use Rattle.wrp_bound_laws.proofs.SyncPairs.SyncGiven.{IsSync}
 use Rattle.wrp_bound_laws.proofs.Frames.TimedTicks.{SentTimed, sent_timed}
 
--- the laws that this stands on
+-- the laws that this rests on
 pub record MasterLaws : Type 0 where
   pub chains : ChainLaws
   pub links : LinksCanBe

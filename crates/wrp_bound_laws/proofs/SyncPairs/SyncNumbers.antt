@@ -82,7 +82,7 @@ if_plain : (n : ℕ) (b : Bool) (o : Option Piece) → IsPlain n o → IsPlain n
 if_plain n true o h = h
 if_plain n false o h = tt
 
--- What a port is told
+-- What a port is given
 
 abbrev IsSmall : ℕ → PortIn → Type 0
 IsSmall n (Sample number phase) = number ≤ n

@@ -1,4 +1,5 @@
--- What stood in a chain at each of its events: its samples, how near they are in time, and which frames its exchange took.
+-- What was there in a chain at each of its events: its samples, how near they are in time, and which frames its
+-- exchange took.
 use Rattle.std.proofs.Common.{◌≡◌, inl, inr, ◌∙◌, refl, ap, ap₂, sym, subst, ℕ, suc, ◌+◌, ◌*◌, ◌<◌, ◌≤◌, ℤ, pos, ◌+ℤ◌, ◌≤ℤ◌, true, List, [], ◌∷◌, ◌++◌, length, map, Option, None, Some, option_to_list, arith}
 use Rattle.std.proofs.lemmas.Int.{ints}
 use Rattle.std.proofs.lemmas.Option.{none-some}
@@ -33,7 +34,7 @@ use Rattle.wrp_bound_laws.proofs.SyncPairs.SyncChains.{AllAbove, BringsGood, Fal
 use Rattle.wrp_bound_laws.proofs.SyncPairs.SyncGiven.{ComesOf, Grown, TakesFollowUp, TakesSync}
 use Rattle.wrp_bound_laws.proofs.SyncPairs.SyncSamples.{Begun, begun, goods_more, grown, sample_of, samples_more}
 
--- A chain that stands, in a run
+-- A chain that is there, in a run
 
 pub record InRun (s : Setting) (k : ℕ) (link : LinkCfg) (newer : List Happened) (start : Happened) (before : List Happened) : Type 0 where
   pub run : IsRun s (newer ++ start ∷ before)
@@ -164,7 +165,7 @@ goods_past laws s k link (h ∷ newer) start before x b =
 
 -- The Syncs and the Follow_Ups that it took
 
--- one event handed over a Sync, which is kept so
+-- one event handed over a Sync, which is kept like this
 pub record SyncCame (s : Setting) (k : ℕ) (link : LinkCfg) (newer : List Happened) (start : Happened) (before : List Happened) (held : HeldSync) : Type 0 where
   pub since : List Happened
   pub hands : Happened
@@ -311,7 +312,7 @@ one_gap now last at n g h k =
     sum : (now last at : ℤ) (p q g : ℕ) → q ≡ p + g → now ≤ℤ (last +ℤ pos g) → last ≤ℤ (at +ℤ pos p) → now ≤ℤ (at +ℤ pos q)
     sum now last at p q g e h k = omega (arith, ints)
 
--- of the older part of a chain, and of all of it: so many gaps lie between
+-- of the older part of a chain, and of all of it: this many gaps lie between
 abbrev Between : Setting → ℕ → LinkCfg → HopNumbers → (a c : List Happened) → Happened → List Happened → ℤ → Type 0
 Between s k link hop a c start before at =
     (now : Recent s k link hop (a ++ c) start before) → now.moment.time ≤ℤ (at +ℤ pos (length (goods_in s link.lower a (c ++ start ∷ before)) * hop.gap_time))

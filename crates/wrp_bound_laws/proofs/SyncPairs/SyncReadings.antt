@@ -1,4 +1,4 @@
--- The time that a Follow_Up tells: the reading at its Sync's departure, as it was stamped.
+-- The time that a Follow_Up carries: the reading at its Sync's departure, as it was stamped.
 use Rattle.std.proofs.Common.{◌≡◌, ◌∙◌, ap, ℕ, ◌+◌, ◌*◌, ◌/◌, ◌%◌, ℤ, pos, ◌+ℤ◌, ◌*ℤ◌, ◌≤ℤ◌, unsigned_abs, arith}
 use Rattle.std.proofs.lemmas.Int.{ints}
 use Rattle.wrp_base.proofs.Integers.{pos_of_abs}
@@ -19,7 +19,7 @@ time_whole v = ap (λ n. n * 65_536_000) (whole (nanoseconds_of v) 0)
 sum_of : (a r v : ℕ) → a * 65_536_000 + r * 1_000 ≡ v → pos (a * 65_536_000) +ℤ (pos 1000 *ℤ pos r) ≡ pos v
 sum_of a r v e = omega (arith, ints, e)
 
--- a stamp that is a multiple of 1,000 tau, and none before 0, is told whole
+-- a stamp that is a multiple of 1,000 tau, and not before 0, is carried whole
 pub told_whole : (v : ℤ) → pos 0 ≤ℤ v → unsigned_abs v % 1_000 ≡ 0 → later_by (timestamp_of (unsigned_abs v)) (pos (rest_of (unsigned_abs v))) ≡ v
 told_whole v least e =
     let n : ℕ = unsigned_abs v in

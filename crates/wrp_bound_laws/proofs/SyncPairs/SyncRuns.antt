@@ -1,4 +1,4 @@
--- In every run a Sync pair that the exchange kept in a chain tells the chain's constant.
+-- In every run a Sync pair that the exchange kept in a chain gives the chain's constant.
 use Rattle.std.proofs.Common.{◌≡◌, inl, inr, ◌∙◌, refl, ap, sym, subst, ℕ, suc, ◌+◌, ◌*◌, ◌≤◌, ℤ, pos, ◌+ℤ◌, ◌-ℤ◌, ◌≤ℤ◌, unsigned_abs, true, is_some, List, [], ◌∷◌, ◌++◌, length, Option, None, Some, IfSome, arith}
 use Rattle.std.proofs.lemmas.Int.{ints}
 use Rattle.wrp_base.specs.declared.link.Role.TheVariants.{Master}
@@ -48,13 +48,13 @@ use Rattle.wrp_bound_laws.proofs.SyncPairs.SyncSame.{Departed, SameLaws, TwoSync
 use Rattle.wrp_bound_laws.proofs.SyncPairs.SyncSamples.{Begun, sample_of}
 use Rattle.wrp_bound_laws.proofs.SyncPairs.SyncSends.{FollowedIn, IsFollowUp, followed_in}
 
--- the laws that this stands on
+-- the laws that this rests on
 pub record SyncLaws : Type 0 where
   pub held : HeldLaws
   pub same : SameLaws
   pub put : FramesWerePutOut
 
--- What a Follow_Up tells
+-- What a Follow_Up carries
 
 -- a frame that was handed over was put out by the master
 pub put_out_by : FramesWerePutOut → (s : Setting) (events : List Happened) (i k : ℕ) (f : FrameAt) → IsRun s events → (world_after s events).frame i ≡ Some f → f.link ≡ k → f.by ≡ Master → WasPutOut f.sending ((world_after s events).end_at k Master).sent
@@ -67,7 +67,7 @@ follow_body body told e = subst IsFollowUp (sym e) tt
 same_told : (a b : Ts) → ◌≡◌ {A = Body} (FollowUp a) (FollowUp b) → a ≡ b
 same_told a b e = cc
 
--- a Follow_Up that was handed over: of which Sync it is, and that it tells the stamp of its departure
+-- a Follow_Up that was handed over: of which Sync it is, and that it carries the stamp of that Sync's departure
 record Tells (s : Setting) (events : List Happened) (k : ℕ) (seq : ℕ) (precise : ℤ) : Type 0 where
   sync : Sending
   stamp : ℤ
@@ -155,13 +155,13 @@ near laws s k link hop gap older start before held x =
     sum_up (world_after s ((gap ++ older) ++ sb)).time x.is.recent.moment.time (world_after s (older ++ sb)).time x.is.handed.frame.sending.at (ring_time s) (frame_life s.cfg) late_here before_it
     (young s (older ++ sb) x.is.hands k link x.is.handed x.is.run)
 
--- its frame, and that of this sending and stamp, are one
+-- its frame, and the frame of this sending and stamp, are one
 pub record OneFrame (s : Setting) (events : List Happened) (k i : ℕ) (f : FrameAt) (y : Sending) (stamp at : ℤ) (moment : ℕ) : Type 0 where
   pub stay : Stayed s events i f
   pub gone : Departed s events k y stamp at moment
   pub alike : stay.frame ≡ gone.frame
 
--- so it is with the Sync of which a Follow_Up of its sequenceId tells that was put out at most a frame's life ago
+-- this holds if a Follow_Up of its sequenceId reports that sending, and was put out at most a frame's life ago
 pub one_frame : SyncLaws → (s : Setting) (k : ℕ) (link : LinkCfg) (hop : HopNumbers) (gap older : List Happened) (start : Happened) (before : List Happened) (held : HeldSync) (x : Later s k link hop gap older start before held) (y : Sending) (stamp at : ℤ) (moment : ℕ) → held.seq ≡ y.message.head.seq →
     IsSync y.message.body → Departed s ((gap ++ older) ++ start ∷ before) k y stamp at moment → (world_after s ((gap ++ older) ++ start ∷ before)).time ≤ℤ (at +ℤ pos (frame_life s.cfg)) →
     OneFrame s (gap ++ (older ++ start ∷ before)) k x.is.handed.number x.is.handed.frame y stamp at moment
@@ -202,7 +202,7 @@ one_frame laws s k link hop gap older start before held x y stamp at moment same
           (subst (λ (z : Sending). IsSync z.message.body) (sym stay.sending) x.is.sync) (stay.sending ∙ one ∙ sym gone.sending);
     }
 
--- so that one tells the stamp of its own departure
+-- so that Follow_Up carries the stamp of the departure of the Sync that is held
 own_stamp : SyncLaws → (s : Setting) (k : ℕ) (link : LinkCfg) (hop : HopNumbers) (gap older : List Happened) (start : Happened) (before : List Happened) (held : HeldSync) (seq : ℕ) (precise : ℤ) (x : Later s k link hop gap older start before held) → held.seq ≡ seq →
     Tells s ((gap ++ older) ++ start ∷ before) k seq precise → precise ≡ x.is.handed.frame.stamp
 own_stamp laws s k link hop gap older start before held seq precise x same t =

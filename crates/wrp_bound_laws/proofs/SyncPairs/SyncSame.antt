@@ -1,4 +1,4 @@
--- The Sync of which a Follow_Up in a chain tells is the one that the exchange holds: sequenceIds come again too late.
+-- The Sync that a Follow_Up in a chain reports is the one that the exchange holds: sequenceIds come again too late.
 use Rattle.std.proofs.Common.{◌≡◌, inl, inr, ◌∙◌, ap, sym, subst, ℕ, ◌+◌, ◌*◌, ◌<◌, ◌≤◌, ℤ, pos, min, ◌+ℤ◌, ◌≤ℤ◌, unsigned_abs, false, if◌then◌else◌, List, [], ◌∷◌, ◌++◌, length, Option, None, Some, arith}
 use Rattle.std.proofs.lemmas.Int.{ints}
 use Rattle.wrp_base.specs.declared.link.Role.TheVariants.{Master}
@@ -32,7 +32,7 @@ use Rattle.wrp_bound_laws.proofs.SyncPairs.SyncSends.{FollowedIn, Follows}
 
 -- The frame that departed as a Follow_Up was put out
 
--- a frame of the master's end, of this sending and stamp, departed at this time, after so many events
+-- a frame of the master's end, of this sending and stamp, departed at this time, after this many events
 pub record Departed (s : Setting) (events : List Happened) (k : ℕ) (y : Sending) (stamp at : ℤ) (moment : ℕ) : Type 0 where
   pub number : ℕ
   pub frame : FrameAt
@@ -97,7 +97,7 @@ departed s events k link x it run =
 
 -- Two Syncs of one sequenceId
 
--- the laws that this stands on
+-- the laws that this rests on
 pub record SameLaws : Type 0 where
   pub master : MasterLaws
   pub one : OneTimedAnEvent

@@ -1,4 +1,4 @@
--- The samples of the exchange below a link, while a chain of the servo there stands, are the chain's good samples.
+-- The samples of the exchange below a link, while the servo there has a chain, are the chain's good samples.
 use Rattle.std.proofs.Common.{◌≡◌, inl, inr, ◌∙◌, refl, ap, sym, subst, ℕ, ◌+◌, ◌==◌, ℤ, not, Bool, true, false, if◌then◌else◌, is_some, List, ◌∷◌, ◌++◌, map, length, Option, None, Some, option_map, option_to_list, Result}
 use Rattle.std.proofs.lemmas.Bool.Decides.{eqb_tells}
 use Rattle.std.proofs.lemmas.Bool.{false≢true}
@@ -157,7 +157,7 @@ grown laws ends s h before k link run is up was chain = event_grown laws ends s 
 
 -- The start of a chain
 
--- its first good sample, with which the exchange was told of it
+-- its first good sample, with which the exchange was given the chain
 pub record Begun (s : Setting) (start : Happened) (before : List Happened) (link : LinkCfg) : Type 0 where
   pub good : Good
   pub is : good_in s link.lower start before start.event ≡ Some good

@@ -1,4 +1,4 @@
--- A Follow_Up is put out as its Sync departs, and tells the stamp of that departure.
+-- A Follow_Up is put out when its Sync departs, and carries the stamp of that departure.
 use Rattle.std.proofs.Common.{◌≡◌, ◌⊎◌, inl, inr, ◌∙◌, refl, ap, sym, subst, ℕ, ℤ, Bool, true, false, List, [], ◌∷◌, ◌++◌, length, map, Option, None, Some, Result}
 use Rattle.std.specs.List.{AllByRecursion}
 use Rattle.std.proofs.lemmas.Bool.{false≢true}
@@ -46,7 +46,7 @@ OnlySo Q ms = AllByRecursion (λ m. IsFollowUp m.body → Q m) ms
 
 -- An input of a node
 
--- the sending of a Sync is told, and this is its Follow_Up
+-- the sending of a Sync is reported, and this is its Follow_Up
 abbrev pub FollowsFrom : NodeSetting → ℕ → Input → PtpMsg → Type 0
 FollowsFrom fixed p (Sent q seq false stamp) m = (p ≡ q) × (m ≡ follow_up_of (setting_of fixed.set p) seq stamp)
 FollowsFrom fixed p _ m = ⊥
@@ -119,7 +119,7 @@ pub record Follows (s : Setting) (w : WorldAt) (k : ℕ) (link : LinkCfg) (e : E
 abbrev FollowIn : Setting → WorldAt → ℕ → LinkCfg → Event → Sending → Type 0
 FollowIn s w k link e x = WasPutOut x (w.end_at k Master).sent ⊎ Follows s w k link e x
 
--- what a departure at a port tells of the oldest that waited there
+-- what a departure at a port reports of the oldest that waited there
 abbrev Told : Setting → ℕ → LinkCfg → (m p : ℕ) (stamp : ℤ) (samples : ℕ) → List Sending → Sending → Type 0
 Told s k link m p stamp samples [] x = ⊥
 Told s k link m p stamp samples (oldest ∷ rest) x =

@@ -1,4 +1,4 @@
--- What an input of a node adds to the calls of its slave's exchange, while a chain of its servo stands.
+-- What an input of a node adds to the calls of its slave's exchange, while its servo has a chain.
 use Rattle.std.proofs.Common.{◌≡◌, ◌∙◌, refl, ap, sym, ℕ, ◌==◌, ◌&&◌, cond, ℤ, Bool, true, false, if◌then◌else◌, is_some, List, ◌∷◌, Option, None, Some, option_map, Result, Ok, Err}
 use Rattle.std.specs.Prelude.{int_le}
 use Rattle.std.proofs.lemmas.Bool.{false≢true}
@@ -70,7 +70,7 @@ chain_is x v (CallLink on) h = refl
 chain_is x v (CallCarrier up) h = refl
 chain_is x v CallReset h = refl
 
--- A servo that is told something, if anything, but no sample
+-- A servo that is given something, if anything, but no sample
 
 abbrev NoSampleIn : Option Call → Type 0
 NoSampleIn None = Unit {0}
@@ -95,7 +95,7 @@ quiet fixed (Some c) s p slave h was now =
     there (slave_of fixed.set) (answer_to x v c) (number_of (Some c)) s.node.told p slave
     ∙ plain_heard (answer_to x v c) (number_of (Some c)) (s.node.told p) (no_phase x v c h) (chain_is x v c h ∙ same_news v.first (after x v c).first was now)
 
--- what stood before, and what its slave port was told
+-- what was there before, and what its slave port was given
 pub record Unmoved (fixed : NodeSetting) (s t : Step) (p : ℕ) : Type 0 where
   pub stood : StandsAt fixed s
   pub told : t.node.told p ≡ s.node.told p
@@ -125,12 +125,12 @@ settled_unmoved law fixed s p slave now =
 abbrev pub pieces : NodeSetting → Step → ℕ → List Piece
 pieces fixed s p = pieces_at fixed.set s.node p
 
--- an exchange that was given a call more, if one
+-- an exchange that was given one more call, if any
 pub record Adds (fixed : NodeSetting) (n : NodeAt) (s : Step) (p : ℕ) (o : Option Piece) : Type 0 where
   pub stood : Stands (run (servo_setting_of fixed) n.calls)
   pub adds : pieces fixed s p ≡ with_call o (pieces_at fixed.set n p)
 
--- a call that neither begins or ends a chain, nor is a sample or of the Sync half
+-- a call that neither begins nor ends a chain, and is neither a sample nor of the Sync half
 abbrev pub IsOther : Option Piece → Type 0
 IsOther None = Unit {0}
 IsOther (Some (CallReqOut seq)) = Unit {0}
@@ -278,7 +278,7 @@ frame_passes law fixed n p q (Ok m) raw sample answer away slave now =
 
 -- A sample
 
--- the phase that it tells the slave port, if it is good
+-- the phase that it gives the slave port, if it is good
 phase_told : (b : Bool) (v w : Core) (news : ChainNews) (o : Option ℕ) → (out_by (cond b (tag_as v o) Ignored) w news).unwrapped ≡ option_map (λ (tag : ℕ). w.phase.u) (cond b o None)
 phase_told true v w news None = refl
 phase_told true v w news (Some tag) = by_range (is_far (with_tag v tag).phase.u)
@@ -401,7 +401,7 @@ none_of : (o : Option ℕ) → (is_some o ≡ true → ⊥) → o ≡ None
 none_of None h = refl
 none_of (Some n) h = absurd (h refl)
 
--- a good sample starts it: the exchange is told first of the chain, then of the sample
+-- a good sample starts it: the exchange is given first the chain, then the sample
 pub record Starts (fixed : NodeSetting) (n : NodeAt) (s : Step) (p number base bits : ℕ) : Type 0 where
   pub tag : ℕ
   pub heard : heard_tag (servo_setting_of fixed) n.calls number base bits ≡ Some tag

@@ -42,7 +42,7 @@ use Rattle.wrp_bound_laws.proofs.SyncPairs.KeptSyncs.{each_sync}
 use Rattle.wrp_bound_laws.proofs.SyncPairs.SyncHeld.{HeldLaws}
 use Rattle.wrp_bound_laws.proofs.SyncPairs.SyncPasts.{InRun}
 
--- the laws that this stands on
+-- the laws that this rests on
 pub record UnbrokenLaws : Type 0 where
   pub held : HeldLaws
   pub locked : ChainIsLocked
@@ -61,7 +61,7 @@ each_locked law s net (h ∷ newer) older n link above chain = (locked_now law s
 
 -- The event that starts the chain
 
--- it is a sample, by which no node takes a step
+-- it is a sample, and no node takes a step in it
 start_still : CommandsAreHeld → ChainSince → (s : Setting) (says : Result PtpMsg FrameFault) (y : ℤ) (before : List Happened) (e : Event) (n m : ℕ) → (HasChain s n before → ⊥) → HasChain s n (record { event = e; says = says; answer = y } ∷ before) →
     TookNoStep s m (record { event = e; says = says; answer = y }) before
 start_still held since s says y before (Deliver i) n m none chain = absurd (none (stood_before since s (record { event = Deliver i; says = says; answer = y }) before n tt chain))

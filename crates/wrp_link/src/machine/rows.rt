@@ -12,7 +12,7 @@ use wrp_base::LinkState::{
 use wrp_base::{LinkState, Role, WrMsg};
 
 impl Link {
-    // What a message does, and the messages that it is answered with; None where it has no row.
+    // What a message does, and the messages that it is answered with; None if it has no row.
     pub(super) fn message(&mut self, message: WrMsg) -> Option<Sends>
         ensures state { self.new ≡ by_row self.old (message_row self.old self.old.role message) }
         ensures answer { option_map (λ sends. sends.items) result
@@ -64,7 +64,7 @@ impl Link {
         }
     }
 
-    // The row of an Announce: a slave in IDLE begins, once its holdoff is over too.
+    // The row of an Announce: a slave in IDLE begins, after its holdoff is over too.
     pub(super) fn announce(&mut self, suffix: Option<u16>) -> Sends
         ensures state { self.new
             ≡ by_row self.old (announce_row self.old self.old.role self.old.state suffix) }
@@ -81,7 +81,7 @@ impl Link {
         }
     }
 
-    // Whether quiet time is over, the module is listed, and the link is a White Rabbit one.
+    // Whether quiet time is over, the module is listed, and the link is a White Rabbit link.
     fn may_leave_idle(&self) -> bool
         ensures { result ≡ may_leave_idle self.now }
     {

@@ -46,7 +46,7 @@ impl Link {
         };
     }
 
-    // The handshake failed: IDLE, in quiet time, and a slave holds off before it starts anew.
+    // The handshake failed: IDLE, in quiet time, and a slave holds off before it starts again.
     pub(super) fn fail(&mut self)
         ensures { self.new ≡ failed self.old }
     {

@@ -10,7 +10,7 @@ use wrp_base::LinkState::{Calibrated, Calibration, Idle, LinkOn, Locked, MLock, 
 use wrp_base::WrMsg;
 
 impl Link {
-    // What a tick does, and the messages that it sends. In S_LOCK the lock detector is asked before
+    // What a tick does, and the messages that it sends. In S_LOCK the lock detector is checked before
     // the timer.
     pub(super) fn tick(&mut self, locked: bool) -> Sends
         ensures state { self.new ≡ by_row self.old (tick_row self.old self.old.state locked) }
@@ -38,8 +38,8 @@ impl Link {
         }
     }
 
-    // A tick of the timer of a waiting state. Where it ends with a retry left, the state's messages
-    // are sent again and the timer is armed again; without, the handshake fails.
+    // A tick of the timer of a waiting state. If it ends with a retry left, the state's messages are
+    // sent again and the timer is armed again; if it ends without one, the handshake fails.
     fn waits(&mut self) -> Sends
         ensures state { self.new ≡ by_row self.old (timer_row self.old self.old.waiting) }
         ensures sends { result.items ≡ sent_by (timer_row self.old self.old.waiting) }

@@ -1,4 +1,4 @@
--- A number held within a limit is the nearer end where it lies outside.
+-- A number held within a limit is the nearer end if it lies outside.
 use Rattle.std.proofs.Common.{arith}
 use Rattle.std.proofs.lemmas.Int.{ints, clamps}
 use Rattle.wrp_base.proofs.exact.hold.Goals as goal

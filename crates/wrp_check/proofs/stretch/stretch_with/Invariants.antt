@@ -3,7 +3,7 @@ use Rattle.wrp_check.specs.Stretches.{stretches_of}
 use Rattle.wrp_check.proofs.Splitting.{MissedSoFar}
 use Rattle.wrp_check.proofs.stretch.stretch_with.Given as goal
 
--- the time lies in none of the stretches behind those that are left
+-- the time lies in none of the stretches after those that are left
 abbrev pub invariant-loop-older : goal.invariant-loop-older
 invariant-loop-older l = MissedSoFar l.time (stretches_of (reverse l.marks)) (stretches_of (reverse l.older))
 

@@ -1,4 +1,4 @@
--- By the events by which carriers come, and the handshake of each link.
+-- By the events in which carriers come, and the handshake of each link.
 use Rattle.wrp_course.proofs.RunWaking.{awake_left_long_ago, awake_lit_long_ago}
 use Rattle.wrp_course.proofs.run_laws.ports_wake_late.Goals as goal
 

@@ -1,4 +1,4 @@
--- The walk has come to `at` and has found `found`.
+-- The walk has reached `at` and has found `found`.
 use Rattle.std.proofs.Common.{length, ◌-◌}
 use Rattle.wrp_frame.proofs.Walk.{Walked}
 use Rattle.wrp_frame.proofs.found.read_tlvs.Given as goal

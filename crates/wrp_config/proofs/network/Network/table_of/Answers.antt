@@ -6,7 +6,7 @@ use Rattle.wrp_caldb.specs.Database.{Database, TableAt, table_at}
 use Rattle.wrp_config.specs.Names.{table_of}
 use Rattle.wrp_config.proofs.network.Network.table_of.Goals as goal
 
--- the table of a link's fibre, where the link is read at its place
+-- the table of a link's fibre, if the link is read at its place
 of_fibre : (cfg : NetCfg) (db : Database) (l i : ℕ) (links : List LinkCfg) (link : LinkCfg) (name : List ℕ) (told : TableAt) → l < length cfg.links.items
     → links ≡ cfg.links.items → i ≡ l → name ≡ (get_or links i link).fibre.bytes → Some told ≡ table_at db name → Some told.points ≡ table_of cfg db l
 of_fibre cfg db l i links link name told below all at named e =

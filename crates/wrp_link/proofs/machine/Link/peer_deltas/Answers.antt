@@ -1,4 +1,4 @@
--- The delays that the link keeps were told.
+-- The delays that the link keeps were given by the peer.
 use Rattle.std.proofs.Common.{◌≡◌, ◌↔◌, sym, subst, Some}
 use Rattle.wrp_link.specs.LinkAt.{LinkAt, new_link}
 use Rattle.wrp_link.specs.Order.{Told}
