@@ -12,7 +12,7 @@ use Rattle.wrp_plain.specs.Premises.{Accepts}
 use Rattle.wrp_plain.specs.Seen.{seen_of, true_offset}
 use Rattle.wrp_plain.specs.World.{IsWithinBound}
 
--- a command against an estimate: all of it, where it is no greater than a step, and else a step towards 0
+-- a command against an estimate: all of it if it is no greater than a step, and else a step towards 0
 pub record IsStepAgainst (step est by : ℤ) : Type 0 where
   pub whole : neg_ℤ step ≤ℤ est → est ≤ℤ step → by ≡ neg_ℤ est
   pub above : step <ℤ est → by ≡ neg_ℤ step
