@@ -1,4 +1,4 @@
--- Where the true delays keep the stated errors, the intervals hold them.
+-- If the true delays keep the stated errors, the intervals hold them.
 use Rattle.std.proofs.Common.{◌≡◌, ◌≢◌, ℤ, pos, ◌^◌, ◌≤ℤ◌, ◌+ℤ◌, ◌-ℤ◌, ◌*ℤ◌, Bool, true, false, cond, int_lt, List, [], ◌∷◌, map, All, Result, Err, refl, sym, subst, arith}
 use Rattle.std.proofs.lemmas.Int.{ints}
 use Rattle.std.proofs.lemmas.List.Elements.{All-head, All-tail}

@@ -1,4 +1,4 @@
--- For the lines of a calibration one text is due, and no line is both a record and none.
+-- For the lines of a calibration one text is expected, and no line is both a record and none.
 use Rattle.std.proofs.Common.{◌≡◌, ℕ, ◌+◌, length, List, ◌∷◌, ◌++◌, refl, sym, ap, ◌∙◌}
 use Rattle.wrp_base.specs.declared.fault.TraceFault.{TraceFault}
 use Rattle.wrp_calib.specs.Lines.{CalibRecord}

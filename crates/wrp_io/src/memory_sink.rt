@@ -61,8 +61,8 @@ impl Sink for MemSink {
         ensures octets { WriteAppends (Some self.old.held) (Some self.new.held) result piece.now }
         ensures cause { HasCause self.old.calls.faults self.new.calls.faults result }
 
-        // It fails if and only if the call is listed or its room is used up; otherwise it takes all
-        // that there is room for.
+        // It fails if and only if the call is listed, or the piece has octets and the room is used up;
+        // otherwise it takes all that there is room for.
         ensures fails { IsErr result ↔ SinkFails self.old piece.now }
         ensures takes { IfOk result (λ n. n ≡ min (length piece.now) (room_left self.old)) }
         ensures room { self.new.room ≡ self.old.room }

@@ -70,7 +70,7 @@ divided (line ∷ later) behind (event ∷ all) e =
     let tail : map event_read (later ++ behind) ≡ map ok all = cc in
     divided_more line later behind event all head (divided later behind all tail)
 
--- the first of some lines say the first of their events: newest first, those that stand last
+-- the first of some lines say the first of their events, which are last in the list, newest first
 pub say_front : (first : List ℕ) (later behind : List (List ℕ)) (limits : Limits) (events : List L1Event) →
     Say (first ∷ (later ++ behind)) limits events →
     (newer : List L1Event) × (older : List L1Event) × (events ≡ newer ++ older) × Say (first ∷ later) limits older
@@ -82,7 +82,7 @@ say_front first later behind limits events say =
       (say.0, parts.front ∙ ap (map ok) (sym (reverse-reverse parts.one))),
     )
 
--- a line that says no event stands among no lines that do
+-- a line that says no event is not among lines that do
 pub never_among : (later behind : List (List ℕ)) (line : List ℕ) (fault : TraceFault) (events : List L1Event) →
     map event_read (later ++ line ∷ behind) ≡ map (λ (event : L1Event). Ok event) events → event_read line ≡ Err fault → ⊥
 never_among [] behind line fault [] are is = absurd cc

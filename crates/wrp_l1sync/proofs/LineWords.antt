@@ -1,4 +1,4 @@
--- A line is told by its words.
+-- A line is known by its words.
 use Rattle.std.proofs.Common.{◌≡◌, ◌∙◌, ap, sym, refl, ℕ, ◌==◌, not, true, false, List, [], ◌∷◌, ◌++◌, append_assoc}
 use Rattle.std.specs.List.{AllByRecursion, list_all, slice_split, onto_first}
 use Rattle.std.proofs.lemmas.Bool.{and_parts, not-true}

@@ -1,4 +1,4 @@
--- One more input: looking back finds what the input makes of the port that stood before it.
+-- One more input: looking back finds what the input makes of the port before it.
 use Rattle.std.proofs.Common.{◌≡◌, ◌∙◌, ap, ap₂, sym, refl, ℕ, ◌+◌, ◌-◌, ◌%◌, ◌==◌, ◌&&◌, nat_lt, not, Bool, true, false, if◌then◌else◌, List, [], ◌∷◌, Option, None, Some, arith}
 use Rattle.std.proofs.Math.Nat.{zero-mod}
 use Rattle.std.proofs.lemmas.Bool.Decides.{nat_tests}
@@ -141,7 +141,7 @@ keeps_settings port (Msg message) =
 keeps_settings port Tick =
     same-settings port.enabled (record port { kept = aged port.kept; turn = next_turn port }) port port.timeout port.interval (refl, refl) (refl, refl)
 
--- an input goes in front of those that a port stands for
+-- an input goes in front of the inputs that a port stands for
 pub Adds-input : (old new : PortAt) (input : L1In) → new ≡ after old input → Adds StandsFor old new input
 Adds-input old new input moved inputs stands =
     let is : new ≡ port_of old.timeout old.interval (input ∷ inputs) =

@@ -131,7 +131,7 @@ dots_add [] more edit adds = adds
 dots_add (k ∷ path) more edit adds = λ ns new e.
     by_dot_adds k more (along_dots path edit) ns new (get_node k ns) (dots_add path more edit adds) refl e
 
--- ---- what stands on a line
+-- ---- what is on a line
 
 -- a header of an array of tables has its key and the brackets of an array with a table
 abbrev pub definition_weight : List ℕ → Definition → ℕ

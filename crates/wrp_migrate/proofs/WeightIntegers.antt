@@ -214,7 +214,7 @@ word_short word =
     short_if (length word) (looks_like_datetime word) _ (number word)
     (λ is. mapped_short (length word) Datetime _ (λ d. tt)) (λ is. number_short word)))
 
--- a scalar that stands in front of a text
+-- a scalar that a text begins with
 pub unquoted_short : (text : List ℕ) (s : Scalar) (rest : List ℕ) → unquoted text ≡ Some (s, rest)
     → (octets : ℕ) × (octets + length rest ≡ length text) × IsShort octets s
 unfolding unquoted

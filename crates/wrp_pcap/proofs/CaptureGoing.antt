@@ -54,13 +54,13 @@ near_behind order rest near whole =
     let left = length-drop (16 + captured order rest) rest in
     near_within order (behind_first order rest) (omega (arith, most, left))
 
--- where the numbers of a packet were cut
+-- if the numbers of a packet were cut
 near_few : (order : Order) (rest given : List ℕ) → length rest < 16 → length given ≤ piece_limit → IsNear order (rest ++ given)
 near_few order rest given few piece =
     let all = length-append rest given in
     record { whole = λ whole. omega (arith, few, piece, all); long = λ long. omega (arith, few, piece, all) }
 
--- where a packet was cut behind them
+-- if a packet was cut after its numbers
 near_cut : (order : Order) (rest given : List ℕ) → 16 ≤ length rest → captured order rest ≤ 262_144 → length rest < 16 + captured order rest
     → length given ≤ piece_limit → IsNear order (rest ++ given)
 near_cut order rest given enough short cut piece =
@@ -77,7 +77,7 @@ near_refilled order rest given (inr cut) piece = elim (cases_lt (length rest) 16
 
 -- ---- steps
 
--- behind the header
+-- after the header
 pub reached_first : (order : Order) (start rest waiting : List ℕ) (inspection : Inspection) → IsBehindHeader order start rest → HasTaken inspection [] → waiting ≡ []
     → Reached order (start ++ []) [] inspection rest waiting
 reached_first order start rest waiting inspection behind has none =
@@ -94,7 +94,7 @@ reached_first order start rest waiting inspection behind has none =
       waits = sym none;
     })
 
--- behind one packet more
+-- after one packet more
 pub reached_more : (order : Order) (taken out rest octets waiting now : List ℕ) (old new : Inspection) → IsWhole order rest
     → octets ≡ (first_packet order rest).octets → packets_taken old + 1 < 2 ^ 32 → Took octets old new waiting now
     → Reached order taken out old rest waiting → Reached order taken out new (behind_first order rest) now
@@ -219,12 +219,12 @@ goes_ended order start rest same waiting left left_now further held held_now ins
       (subst (λ (g : List ℕ). Reached order (start ++ g) goes.out inspection rest waiting) (sym (append-nil goes.given)) goes.reached);
 }
 
--- the octets of a header, where no more came
+-- the octets of a header, if no more came
 pub filled : (before middle now : Option (List ℕ)) (held same : List ℕ) → Consumes before middle held → Consumes middle now [] → same ≡ held → Consumes before now same
 filled before middle now held same taken nothing is =
     subst (λ (h : List ℕ). Consumes before now h) (append-nil held ∙ sym is) (Consumes-trans before middle now held [] taken nothing)
 
--- the same, where some came for which there was no memory
+-- the same, if some came for which there was no memory
 pub filled_all : (before middle now : Option (List ℕ)) (held given : List ℕ) → Consumes before middle held → Consumes middle now given
     → (all : List ℕ) × Consumes before now all
 filled_all before middle now held given taken more = (held ++ given, Consumes-trans before middle now held given taken more)

@@ -1,4 +1,4 @@
--- The packets of a capture: its octets determine them, the end behind them, and the fault there.
+-- The packets of a capture: its octets determine them, the end after them, and the fault there.
 use Rattle.std.proofs.Common.{◌≡◌, ◌≤◌, ℕ, List, [], ◌∷◌, ◌++◌, length, Option, Some, None, refl, sym, ap, ap₂, ◌∙◌, subst, arith}
 use Rattle.wrp_pcap.specs.declared.capture.CaptureFault.{CaptureFault}
 use Rattle.wrp_pcap.specs.declared.capture.CaptureFault.TheVariants.{Magic, LinkType, Header, Packet, Long}
@@ -66,13 +66,13 @@ ends_are_one order (first ∷ packets) (second ∷ others) one other left rest o
     let on = ends_are_one order packets others one other left rest (behind_first order octets) a x b y in
     record { packets_are = ap₂ (λ p ps. p ∷ ps) (is ∙ sym same) on.packets_are; faults_are = on.faults_are }
 
--- the octets behind a header have one reading
+-- the octets after a header have one reading
 pub readings_are_one : (order : Order) (packets others : List StoredPacket) (one other : Option CaptureFault) (octets : List ℕ)
     → HasReading order packets one octets → HasReading order others other octets → AreOne packets others one other
 readings_are_one order packets others one other octets a b =
     ends_are_one order packets others one other a.rest b.rest octets a.begins a.ends b.begins b.ends
 
--- one more whole packet behind those that stand in front
+-- one more whole packet after those at the front
 pub begins_on : (order : Order) (packets : List StoredPacket) (rest octets : List ℕ) → Begins order packets rest octets → IsWhole order rest
     → Begins order (packets ++ (first_packet order rest ∷ [])) (behind_first order rest) octets
 begins_on order [] rest octets is whole =

@@ -87,7 +87,8 @@ chain_stepped master slave newest before above =
       slave_calibrated = seven i;
     }
 
--- a White Rabbit message, as its master's where it goes from the master to the slave, and as its slave's where it goes back
+-- a White Rabbit message, taken as its master's if it goes from the master to the slave, and as its slave's if it goes
+-- back
 abbrev heard_by : WrMsg → (forth back : Bool) → ℕ → Trail → Trail
 heard_by message forth back n chain =
     let after = if forth then after_master message n chain else chain in

@@ -56,7 +56,7 @@ found (step ∷ steps) (newest ∷ before) =
       | false ↦ λ is. further step steps newest before (look_back (step ∷ steps) before) is (found (step ∷ steps) before)
     ] refl
 
--- ---- the first SLAVE_PRESENT behind the LOCK
+-- ---- the first SLAVE_PRESENT after the LOCK
 
 -- what the search for it finds
 record IsFirst (test : Captured → Bool) (number : ℕ) (captured : List Captured) (first : ℕ) : Type 0 where

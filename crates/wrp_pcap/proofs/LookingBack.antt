@@ -122,7 +122,7 @@ behind_next present newest before count (finds numbers) many long other =
     (ap (λ lock. first_above present lock (newest ∷ before)) (get_or_append_left numbers (newest.number ∷ []) 0 1 (omega (arith, many, long)))
     ∙ first_above-other present (lock_of numbers) newest before other)
 
--- what is kept at a message of the handshake behind the LOCK
+-- what is kept at a message of the handshake after the LOCK
 pub behind_after : (present step : Captured → Bool) (steps : List (Captured → Bool)) (newest : Captured) (before : List Captured) →
     1 < length steps → IsAbove newest.number before → (step newest ≡ true → present newest ≡ false) →
     behind_at present (step ∷ steps) (newest ∷ before)

@@ -6,7 +6,7 @@ use Rattle.std.proofs.lemmas.List.{take_more, map-append}
 use Rattle.wrp_records.specs.Words.{line_of}
 use Rattle.wrp_pcap.specs.PacketLines.{spaced}
 
--- words behind words
+-- words after words
 pub spaced-append : (words more : List (List ℕ)) → spaced (words ++ more) ≡ spaced words ++ spaced more
 spaced-append [] more = refl
 spaced-append (word ∷ words) more =

@@ -1,4 +1,4 @@
--- An inspection that stands for its packets: what it tells of one more, and what it stands for then.
+-- An inspection that represents its packets: its verdict on one more, and what it represents then.
 use Rattle.std.proofs.Common.{◌≡◌, ◌+◌, ◌-◌, ◌<◌, ◌≤◌, ◌^◌, ℕ, Bool, true, false, min, if◌then◌else◌, List, [], ◌∷◌, ◌++◌, length, Option, sym, ap, ◌∙◌, subst, arith}
 use Rattle.std.specs.List.{count_by}
 use Rattle.std.proofs.lemmas.List.Sums.{count_by-le-length, sum_by-cons}
@@ -16,7 +16,7 @@ use Rattle.wrp_pcap.specs.PacketLines.{told_of, lines_with, packet_lines, is_mes
 use Rattle.wrp_pcap.specs.StandsFor.{StandsFor, told_at}
 use Rattle.wrp_pcap.proofs.Standing.{told_is, stands_for_more}
 
--- what is told of a message
+-- the verdict on a message
 pub told_message : (inspection : Inspection) (before : List Content) (number : ℕ) (content : Content) (message : PtpMsg) (told : Option Verdict8)
     → HasTaken inspection before → told ≡ told_at inspection.pairs number message.head.source message.body → content ≡ Message message
     → told ≡ told_of number (messages_of before) content
@@ -42,7 +42,7 @@ at_most_one : (b : Bool) → (if b then 1 else 0) ≤ 1
 at_most_one true = omega arith
 at_most_one false = omega arith
 
--- of no more packets than there are the verdict is told
+-- no more packets have the verdict `complete` than there are packets
 complete_few : (contents : List Content) → complete_count contents ≤ length contents
 complete_few [] = omega arith
 complete_few (newest ∷ before) =
@@ -80,7 +80,7 @@ above_onto (Message message) at number captured below above = (below, above)
 above_onto Other at number captured below above = above
 above_onto (Fault fault) at number captured below above = above
 
--- the numbers of messages are those of their packets
+-- the numbers of messages are the numbers of their packets
 pub number_above : (before : List Content) (number : ℕ) → length before < number → IsAbove number (messages_of before)
 number_above [] number below = tt
 number_above (newest ∷ before) number below =
@@ -102,12 +102,12 @@ taken_more old pairs counts number before content number_is taken keeps are =
     let same : number ≡ length before + 1 = number_is ∙ ap (λ n. n + 1) taken.counts.packets in
     (kept_more old.pairs pairs before content (subst (λ n. KeepsContent n content old.pairs pairs) same keeps) taken.stands, are)
 
--- what is told of the next packet
+-- the verdict on the next packet
 pub told_next : (counts : Counts) (before : List Content) (content : Content) (told : Option Verdict8) → AreCounts counts before
     → told ≡ told_of (counts.packets + 1) (messages_of before) content → told ≡ told_of (length before + 1) (messages_of before) content
 told_next counts before content told are is = is ∙ ap (λ n. told_of (n + 1) (messages_of before) content) are.packets
 
--- the lines of the next packet behind a text
+-- the lines of the next packet after a text
 pub written_next : (counts : Counts) (before : List Content) (content : Content) (told : Option Verdict8) (none lines was now : List ℕ)
     → AreCounts counts before → told ≡ told_of (counts.packets + 1) (messages_of before) content
     → none ≡ [] → lines ≡ none ++ lines_with (counts.packets + 1) content told → now ≡ was ++ lines

@@ -110,7 +110,7 @@ measurements_are_exact = record {
 
 -- ---- events
 
--- nothing is told only where a test fails
+-- nothing is reported only if a test fails
 from_none : {X : Type 0} (b : Bool) (x : X) → cond b (Some x) None ≡ None → b ≡ false
 from_none true x e = absurd (cc e)
 from_none false x e = refl

@@ -28,7 +28,7 @@ pub record Both {A B : Type 0} (read : Result A TraceFault) (next : A → Result
   pub is : read ≡ Ok first
   pub rest : next first ≡ Ok value
 
--- and so it did where the whole gave one
+-- and so it did if the whole gave one
 pub both : {A B : Type 0} (read : Result A TraceFault) (next : A → Result B TraceFault) (value : B) → (read >>= next) ≡ Ok value → Both read next value
 both (Ok x) next value e = record { first = x; is = refl; rest = e }
 both (Err fault) next value e = absurd (cc)

@@ -1,4 +1,4 @@
--- Behind records each line is a record or is refused.
+-- After records each line is a record or is refused.
 use Rattle.std.proofs.Common.{◌≡◌, ◌⊎◌, inl, inr, refl, ap, ℕ, ◌+◌, List, [], ◌∷◌, ◌++◌, length, Option, None, Some, Result, Ok, Err}
 use Rattle.wrp_base.specs.declared.fault.TraceFault.{TraceFault}
 use Rattle.wrp_records.specs.declared.machine.Refusal.{Refusal}

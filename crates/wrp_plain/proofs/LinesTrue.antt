@@ -21,7 +21,7 @@ use Rattle.wrp_records.proofs.WordLemmas.{SameWord, decimal_word, first_word, he
 use Rattle.wrp_plain.proofs.LineWords.{digits_are_word}
 use Rattle.wrp_plain.proofs.Worth.{tells_truth}
 
--- what tells a report in a line, behind its first word
+-- what says a report in a line, after its first word
 abbrev TrueOff : List ℕ → List ℕ
 TrueOff off = codes "true" ++ 32 ∷ (off ++ 10 ∷ [])
 

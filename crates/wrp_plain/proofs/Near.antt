@@ -125,7 +125,7 @@ since_small set off (Pass dt drift ∷ events) (fields, kept, before) =
 since_small set off (Tick ∷ events) accepted = omega arith
 since_small set off (Exch span dms dsm o2 o3 t ∷ events) (fields, kept, before) = since_small set off events before
 
--- what the servo was told with an event is near the true offset before the command
+-- what the servo was given with an event is near the true offset before the command
 told_near : (set : PlainSet) (off : ℤ) (events : List PlainEvent) → Accepts set off events →
     AreNear set (true_offset set off events) (time_since_tick events) (standings set (calls_of set events)) →
     (event : PlainEvent) → HasFields event → broken_after set off events event ≡ None →
