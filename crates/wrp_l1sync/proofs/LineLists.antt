@@ -1,4 +1,4 @@
--- Lines say one list of events, and a line more says one event more.
+-- Lines say one list of events, and one more line says one more event.
 use Rattle.std.proofs.Common.{◌≡◌, ◌∙◌, ap, ap₂, sym, refl, ℕ, Result, Ok, Err, List, [], ◌∷◌, ◌++◌, map, reverse}
 use Rattle.std.proofs.lemmas.List.{map-append, reverse-append, reverse-reverse}
 use Rattle.wrp_base.specs.declared.fault.TraceFault.{TraceFault}
@@ -14,7 +14,7 @@ ok event = Ok event
 turned : (event : L1Event) (events : List L1Event) → reverse (event ∷ events) ≡ reverse events ++ event ∷ []
 turned event events = reverse-append (event ∷ []) events
 
--- a line more says an event more
+-- one more line says one more event
 pub say_more : (first : List ℕ) (later : List (List ℕ)) (limits : Limits) (events : List L1Event) (line : List ℕ) (event : L1Event) →
     Say (first ∷ later) limits events → event_read line ≡ Ok event → Say (first ∷ (later ++ line ∷ [])) limits (event ∷ events)
 say_more first later limits events line event say is = (

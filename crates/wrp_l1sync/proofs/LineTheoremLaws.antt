@@ -86,7 +86,7 @@ told_state B B tick LinkAlive = refl
 told_state B B tick ConfigMatch = refl
 told_state B B tick Up = refl
 
--- ---- what is written of an event
+-- ---- what is written for an event
 
 -- what an answer of an end gives for an end
 abbrev told_of : Side → Side → Option L1State → Option L1State

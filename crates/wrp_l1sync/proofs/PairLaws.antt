@@ -65,7 +65,7 @@ sends-pair limits count h (Tick number) =
     ap (λ m. option_map (sent_by (side_of number) h.time) m) (due-side limits count h (side_of number))
 sends-pair limits count h _ = refl
 
--- looking back over one event more
+-- looking back over one more event
 pub pair-after : (limits : Limits) (count : ℕ) (h : History) (event : L1Event) →
     changed (noted (pair_at limits count h) event) event ≡ pair_at limits (count + 1) (grown limits.interval h event)
 pair-after limits count h event =

@@ -47,7 +47,7 @@ kept-aged-by timeout ticks message true live =
 kept-aged-by timeout ticks message false dead =
     ap (λ c. if c then Some (kept_at message (timeout - (ticks + 1))) else None) (sym (past-last timeout ticks dead))
 
--- a message that is kept, one tick on
+-- a message that is kept, one tick later
 kept-aged : (timeout ticks : ℕ) (message : Option L1Msg) → aged (kept_by timeout ticks message) ≡ kept_by timeout (ticks + 1) message
 kept-aged timeout ticks None = refl
 kept-aged timeout ticks (Some message) = kept-aged-by timeout ticks message (nat_lt ticks timeout) refl
@@ -88,7 +88,7 @@ ticked-port timeout interval false own since message ticks none =
     ap (λ k. port_at timeout interval false own k (ticks % interval))
     (ap (λ m. kept_by timeout since m) (none refl) ∙ sym (ap (λ m. kept_by timeout (since + 1) m) (none refl)))
 
--- looking back over one input more
+-- looking back over one more input
 pub port-after : (timeout interval : ℕ) (input : L1In) (before : List L1In) →
     after (port_of timeout interval before) input ≡ port_of timeout interval (input ∷ before)
 port-after timeout interval Enable before =

@@ -128,7 +128,7 @@ new_sent interval h (Tick number) =
     option_map (sent_by (side_of number) h.time) (send_of interval (inputs_of (handed (side_of number) h)) given.Tick)
 new_sent interval h _ = None
 
--- what happened, with one event more
+-- what happened, with one more event
 abbrev pub grown : ℕ → History → L1Event → History
 grown interval h event =
     record {

@@ -23,13 +23,13 @@ pub fn text_shows_the_pair()
     ensures { TextShowsThePair }
 {}
 
-/// So it is after each record of an input that was handled, whatever the answer to the input.
+/// The same holds after each record of an input that was handled, whatever the answer to the input.
 pub fn answers_show_the_pair()
     ensures { AnswersShowThePair }
 {}
 
-/// So it is after each record in what is left of an answer that broke off, because the source failed or
-/// memory ran out.
+/// The same holds after each record in what is left of an answer that broke off, because the source
+/// failed or memory ran out.
 pub fn what_stands_shows_the_pair()
     ensures { WhatStandsShowsThePair }
 {}

@@ -302,7 +302,7 @@ impl L1Pair {
         }
     }
 
-    // The end that would be late after so much time, a first.
+    // The end that would be late after this much time, a first.
     fn late(&self, dt: u64) -> Option<Breach>
         ensures { result
             ≡ option_or

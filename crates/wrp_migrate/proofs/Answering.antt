@@ -37,7 +37,7 @@ finished taken ended due given before now text after is (inr cut) = (
   subst (λ s. After migration taken ended [] s (take cut.1.0 text)) (sym cut.0) (text, cut.1.0, refl, inl (due, is)),
 )
 
--- without memory nothing is written
+-- if memory runs out nothing is written
 pub wrote_nothing : (taken : List ℕ) (ended : Bool) (given : Status) (before now : Option (List ℕ)) → IsShort given before now → Wrote taken ended given before now
 wrote_nothing taken ended given before now is = (
   [],
@@ -57,7 +57,7 @@ due_large taken long more goes =
     let size : length (taken ++ more) ≡ length taken + length more = length-append taken more in
     (refl, (omega (arith, size, long), refl))
 
--- and the line is written that says so
+-- and the line that says so is written
 pub wrote_large : (taken : List ℕ) (given : Status) (before now : Option (List ℕ)) → 262_144 < length taken → Finishes TooLarge given before now too_large_line
     → Wrote taken false given before now
 wrote_large taken given before now long is = finished taken false TooLarge given before now too_large_line (due_large taken long) (due_large taken long) is

@@ -1,4 +1,4 @@
--- How large the text is that `migrate` writes (this project's profile).
+-- How large the text that `migrate` writes is (this project's profile).
 use Rattle.std.specs.Prelude.{◌≤◌, ◌+◌, ◌*◌, ◌/◌, max, ℕ, List, [], length}
 use Rattle.wrp_io.specs.declared.link.LinkCall.{LinkCall}
 use Rattle.wrp_migrate.specs.Migration.{IsWithin, migration}

@@ -13,7 +13,7 @@ use Rattle.wrp_pcap.specs.Capture.{order_by, order_of, number_at, captured, Stor
 use Rattle.wrp_pcap.specs.CaptureReading.{header_by, header_of, is_whole, first_packets, left_behind, fault_left, packets_behind, packets_of, refusal_at, refusal_behind, refusal_of, FilesHaveOneReading, stored, CapturesAreTheirPackets, StayWhateverComes, ReadingsGoOn}
 use Rattle.wrp_pcap.proofs.CaptureExact.{read_once}
 
--- what is said of both ways is said of an if
+-- what holds of both branches of an if holds of the if
 either : {A : Type 0} → (P : A → Type 0) (b : Bool) (x y : A) → (b ≡ true → P x) → (b ≡ false → P y) → P (if b then x else y)
 either P true x y one other = one refl
 either P false x y one other = other refl

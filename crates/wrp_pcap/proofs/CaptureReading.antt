@@ -13,7 +13,7 @@ fault_not_whole order Header octets (some, few) whole = let enough = whole.numbe
 fault_not_whole order Packet octets (enough, short, cut) whole = let own = whole.own in omega arith
 fault_not_whole order Long octets (enough, long) whole = let short = whole.short in omega arith
 
--- nor are none
+-- nor are no octets
 pub end_not_whole : (order : Order) (fault : Option CaptureFault) (rest : List ℕ) → IsEnd order fault rest → IsWhole order rest → ⊥
 end_not_whole order None rest ends whole = let enough = whole.numbers in let none = ap length ends in omega arith
 end_not_whole order (Some fault) rest ends whole = fault_not_whole order fault rest ends whole
@@ -34,7 +34,7 @@ one_fault order Packet Long octets (enough, short, cut) (all, long) = absurd (om
 one_fault order Long Header octets (enough, long) (some, few) = absurd (omega arith)
 one_fault order Long Packet octets (all, long) (enough, short, cut) = absurd (omega arith)
 
--- octets with a fault are some
+-- octets with a fault are not empty
 pub fault_is_some : (order : Order) (fault : CaptureFault) (octets : List ℕ) → HasPacketFault fault order octets → 1 ≤ length octets
 fault_is_some order Magic octets has = absurd has
 fault_is_some order LinkType octets has = absurd has

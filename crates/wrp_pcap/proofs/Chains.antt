@@ -136,7 +136,7 @@ stepped_by master slave source n (Signal target (Some message)) chain =
     stepped_is message (goes source target master slave) (goes source target slave master) n chain
 stepped_by master slave source n _ chain = refl
 
--- looking back over one message more
+-- looking back over one more message
 pub chain_after : (master slave : PortIdentity) (newest : Captured) (before : List Captured) → IsAbove newest.number before →
     trail_of master slave (newest ∷ before)
     ≡ kept_at newest.message.head.source newest.number master slave newest.message.body (trail_of master slave before)

@@ -58,7 +58,7 @@ all_carried (packet ∷ packets) =
 carry : (packets : List StoredPacket) → (contents : List Content) × Carry packets contents
 carry packets = all_carried (reverse (map (λ packet. packet.octets) packets))
 
--- The first so many packets
+-- The first n packets
 
 record SplitAt (order : Order) (n : ℕ) (packets : List StoredPacket) (rest octets : List ℕ) : Type 0 where
   front : List StoredPacket

@@ -11,7 +11,7 @@ use Rattle.wrp_pcap.specs.Chain.{kept, present_of, behind_of, behind_at, followe
 
 -- ---- what looking back finds
 
--- so many numbers are found
+-- this many numbers are found, if none is missing
 abbrev pub HasCount : ℕ → Back → Type 0
 HasCount count (lacks place) = Unit {0}
 HasCount count (finds numbers) = length numbers ≡ count

@@ -35,7 +35,7 @@ pub told_is : (pairs : Pairs) (before : List Captured) (source : PortIdentity) (
 told_is pairs before source n (Signal target (Some WR_MODE_ON)) stands = ap Some (verdict_is pairs before source target n stands)
 told_is pairs before source n _ stands = refl
 
--- one message more
+-- one more message
 pub stands_for_more : (old new : Pairs) (before : List Captured) (newest : Captured) →
     Kept newest.number newest.message.head.source newest.message.body old new → StandsFor old before → IsAbove newest.number before →
     StandsFor new (newest ∷ before)

@@ -31,7 +31,7 @@ more_if : (b : Bool) (count total with : ℕ) → count ≡ total → total < 2 
 more_if true count total with is few more = omega (arith, is, few, more)
 more_if false count total with is few more = omega (arith, is, more)
 
--- one packet more is counted
+-- one more packet is counted
 count_more : (test : Content → Bool) (before : List Content) (content : Content) (count with : ℕ) → count ≡ count_by test before
     → length before < 2 ^ 32 - 1 → with ≡ (if test content then min (count + 1) (2 ^ 32 - 1) else count) → with ≡ count_by test (content ∷ before)
 count_more test before content count with is few more =
@@ -50,7 +50,7 @@ complete_few (newest ∷ before) =
     let few = complete_few before in
     omega arith
 
--- counts with one packet more
+-- counts with one more packet
 pub counted : (counts with : Counts) (before : List Content) (content : Content) (told : Option Verdict8)
     → counts.packets + 1 < 2 ^ 32 → AreCounts counts before → told ≡ told_of (length before + 1) (messages_of before) content
     → with.packets ≡ counts.packets + 1
@@ -86,7 +86,7 @@ number_above [] number below = tt
 number_above (newest ∷ before) number below =
     above_onto newest (length before + 1) number (messages_of before) (omega (arith, below)) (number_above before number (omega (arith, below)))
 
--- one packet more is kept
+-- one more packet is kept
 kept_more : (old new : Pairs) (before : List Content) (content : Content) → KeepsContent (length before + 1) content old new
     → StandsFor old (messages_of before) → StandsFor new (messages_of (content ∷ before))
 kept_more old new before (Message message) keeps stands =

@@ -58,7 +58,7 @@ carries source kind from to _ = false
 abbrev pub is_sent : (WrMsg → Bool) → (from to : PortIdentity) → Captured → Bool
 is_sent kind from to captured = carries captured.message.head.source kind from to captured.message.body
 
--- the messages of the handshake of a master and its slave up to one of them, that one first; so many of them are its place
+-- the messages of the handshake of a master and its slave up to one of them, that one first; its place is their number
 abbrev pub to_present : (master slave : PortIdentity) → List (Captured → Bool)
 to_present master slave = is_sent is_present slave master ∷ []
 

@@ -27,7 +27,7 @@ pub record HasTaken (inspection : Inspection) (contents : List Content) : Type 0
 abbrev pub packets_taken : Inspection → ℕ
 packets_taken inspection = inspection.counts.packets
 
--- a packet was taken: its lines follow a text, and the inspection represents one packet more
+-- a packet was taken: its lines follow a text, and the inspection represents one more packet
 pub record Took (packet : List ℕ) (old new : Inspection) (was now : List ℕ) : Type 0 where
   pub content : Content
   pub has : HasContent packet content

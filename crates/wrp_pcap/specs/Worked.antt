@@ -32,7 +32,7 @@ abbrev pub packet : ℕ → PortIdentity → PortIdentity → WrMsg → Captured
 packet number source target message =
     record { number = number; message = record { head = head_from source; body = Signal target (Some message) } }
 
--- the messages of a handshake from packet number n on, but for the last, the oldest first
+-- the messages of a handshake from packet number n on, except the last, the oldest first
 abbrev pub seven : ℕ → PortIdentity → PortIdentity → List Captured
 seven n master slave =
     packet n slave master SLAVE_PRESENT ∷

@@ -9,7 +9,7 @@ use byteorder::{BigEndian, ByteOrder, LittleEndian};
 pub const HEADER_LENGTH: usize = 24;
 /// The octets of the four numbers in front of a packet's own octets.
 pub const NUMBERS_LENGTH: usize = 16;
-/// The most octets of a packet.
+/// The most octets that a packet may have.
 pub const LONGEST: u32 = 262_144;
 
 // The place of the link type in the header.

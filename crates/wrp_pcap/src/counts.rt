@@ -35,7 +35,7 @@ impl Counts {
         }
     }
 
-    /// With one packet more, by what it carries and the verdict on it.
+    /// With one more packet, by what it carries and the verdict on it.
     pub fn with(self, content: &Content, told: Option<Verdict8>) -> Counts
         requires { self.packets + 1 < 2 ^ 32 }
         ensures counts { (before : List Content) → AreCounts self before

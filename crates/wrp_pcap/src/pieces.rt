@@ -60,7 +60,7 @@ impl Pieces {
         &self.octets[self.at..]
     }
 
-    /// Passes so many octets of what is held.
+    /// Passes this many octets of what is held.
     pub fn pass(&mut self, size: usize)
         requires { size ≤ length self.old }
         ensures { self.new ≡ drop size self.old }

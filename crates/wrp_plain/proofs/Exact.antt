@@ -57,7 +57,7 @@ find_splits : {X : Type 0} (p : X → Bool) (xs : List X) (x : X) → find p xs 
 find_splits p [] x e = absurd (cc e)
 find_splits p (y ∷ ys) x e = splits_at p y ys x (find_splits p ys x) (p y) refl e
 
--- a report that is not the least of those of which this one is has a greater bound
+-- a report that is not the least has a greater bound than one that is
 greater : (reports : List PlainReport) (least r : PlainReport) → is_least reports least ≡ true → is_least reports r ≡ false →
     (test : Bool) → int_lt least.bound r.bound ≡ test → least.bound <ℤ r.bound
 greater reports least r is above true e = grind (arith, ints, e)

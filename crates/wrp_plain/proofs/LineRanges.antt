@@ -18,7 +18,7 @@ use Rattle.wrp_plain.specs.Measurement.{HasRanges}
 abbrev pub read_as : {A : Type 0} → A → Result A TraceFault
 read_as x = Ok x
 
--- of one reading there is one value
+-- one reading has one value
 pub ok_same : {A : Type 0} (x y : A) → read_as x ≡ read_as y → x ≡ y
 ok_same x y e = cc
 

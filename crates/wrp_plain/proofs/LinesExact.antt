@@ -19,7 +19,7 @@ none_ends : {X : Type 0} (xs : List X) (x : X) → xs ++ x ∷ [] ≡ [] → ⊥
 none_ends [] x e = cc
 none_ends (y ∷ xs) x e = cc
 
--- of a course the last line says the newest event, and those before it are a course
+-- the last line of a course says the newest event, and the lines before it are a course
 record Newest (first : List ℕ) (lines : List (List ℕ)) (line : List ℕ) (start : PlainStart) : Type 0 where
   newest : PlainEvent
   before : List PlainEvent

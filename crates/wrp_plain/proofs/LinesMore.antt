@@ -1,4 +1,4 @@
--- What a machine of the lines represents with one line more.
+-- What a machine of the lines represents with one more line.
 use Rattle.std.proofs.Common.{◌≡◌, ◌∙◌, sym, ap, ap₂, subst, length, ◌+◌, ℕ, ℤ, Result, Ok, Err, IfOk, Some, None, Option, List, [], ◌∷◌, ◌++◌}
 use Rattle.wrp_base.specs.declared.fault.TraceFault.{TraceFault}
 use Rattle.wrp_records.specs.declared.machine.Refusal.{Refusal}

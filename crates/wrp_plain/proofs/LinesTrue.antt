@@ -1,4 +1,4 @@
--- The lines that are written of the events that records say are true.
+-- The lines that are written for the events that records say are true.
 use Rattle.std.proofs.Common.{◌≡◌, refl, ap, sym, subst, append_assoc, append-nil, ℕ, ℤ, pos, Bool, true, false, if◌then◌else◌, Option, None, Some, List, [], ◌∷◌, ◌++◌, codes, arith}
 use Rattle.std.specs.Prelude.{IfSome}
 use Rattle.std.specs.Fmt.{decimal, signed_decimal}

@@ -47,7 +47,7 @@ near-pass set off since dt drift keeps mark is = record {
 one_more : (ticks dmax since : ℕ) → since ≤ dmax → ticks * dmax + since ≤ (ticks + 1) * dmax
 one_more ticks dmax since h = grind arith
 
--- by the next tick the rate gives no more than for one tick more
+-- by the next tick the rate gives no more than for one more tick
 pub by_next : (rate ticks dmax since more : ℕ) → since ≤ dmax → more * 10 ^ 12 ≤ rate * (ticks * dmax + since) →
     more * 10 ^ 12 ≤ rate * ((ticks + 1) * dmax)
 by_next rate ticks dmax since more h slow =

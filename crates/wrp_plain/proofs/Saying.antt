@@ -35,7 +35,7 @@ abbrev pub said_at : PlainSet → ℤ → List PlainEvent → PlainEvent → Lis
 said_at set off before event =
     said_seen (tick_count (event ∷ before)) (seen_of set off before event).report (seen_of set off before event).off (seen_of set off before event).command
 
--- what is said of events, newest first, in front of what is said later
+-- what is said for events, newest first, in front of what is said later
 abbrev pub said_onto : PlainSet → ℤ → List PlainEvent → List Said → List Said
 said_onto set off [] said = said
 said_onto set off (event ∷ before) said = said_onto set off before (said_at set off before event ++ said)

@@ -28,7 +28,7 @@ HaveReportLines lines set off [] = Unit {0}
 HaveReportLines lines set off (event ∷ before) =
     HasReportLine lines (tick_count (event ∷ before)) (seen_of set off before event) × HaveReportLines lines set off before
 
--- so it is whatever the events are, and whatever follows what is written of them
+-- so it is whatever the events are, and whatever follows what is written for them
 abbrev pub ReportsHaveLines : Type 0
 ReportsHaveLines =
     (set : PlainSet) (off : ℤ) (events : List PlainEvent) (last : List ℕ) →

@@ -62,7 +62,7 @@ pub record IsSteeredAt (set : PlainSet) (off : ℤ) (before : List PlainEvent) (
   pub left : IsLeft set event (seen_of set off before event) (true_offset set off (event ∷ before))
   pub holds : (later : List PlainEvent) → HoldsFor set off before event (seen_of set off before event) later
 
--- so it is with each of these events, newest first
+-- so it is for each of these events, newest first
 abbrev pub AreSteered : PlainSet → ℤ → List PlainEvent → Type 0
 AreSteered set off [] = Unit {0}
 AreSteered set off (event ∷ before) = IsSteeredAt set off before event × AreSteered set off before

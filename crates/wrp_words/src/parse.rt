@@ -35,7 +35,7 @@ fn bare_parser<'a>(alloc: Global) -> Parser<'a>
         .subcommand_required(true)
 }
 
-// A command line with one command more, which has one option.
+// A command line with one more command, which has one option.
 fn with_command<'a>(
     alloc: Global,
     parser: Parser<'a>,
