@@ -62,7 +62,7 @@ pub record ShowsWhole (taken text : List ℕ) : Type 0 where
   pub accepted : Accepts (map content_of lines) text
   pub shows : ShowsAfterEach (map content_of lines) text
 
--- what is left of any answer shows both ends so, and before the first record nothing is left
+-- what is left of any answer shows both ends so, and before the first record the empty text does
 pub record WhatStandsShowsThePair : Type 0 where
   pub first : (input : List ℕ) (calls : List LinkCall) (text : List ℕ) → (of_lines meaning).first input calls text → ShowsFront input text
   pub cut : (taken text : List ℕ) → (of_lines meaning).cut taken text → ShowsWhole taken text

@@ -14,7 +14,7 @@ pub fn each_has_migration()
     ensures { EachHasMigration }
 {}
 
-/// An input has no two answers.
+/// An input has at most one answer.
 pub fn one_migration()
     ensures { OneMigration }
 {}

@@ -75,7 +75,7 @@ abbrev pub IsLineOf : List Row → List (List ℕ) → Type 0
 IsLineOf [] words = ⊥
 IsLineOf (row ∷ more) words = IsLine row.name row.behind words ⊎ IsLineOf more words
 
--- a parser that knows one command more, if that command has an option
+-- a parser that knows one more command, if that command has an option
 abbrev pub with_row : App → List ℕ → Behind → App
 with_row app name (Bare asks) = app
 with_row app name (May asks option value with) = with_subcommand app (with_option name option false).top
