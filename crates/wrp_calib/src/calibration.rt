@@ -13,7 +13,7 @@ use wrp_base::{ceil_div, difference, floor_div, product, sum};
 /// The asymmetry is given in units of `2^-40`.
 const UNIT: i128 = 1 << 40;
 
-/// An asymmetry of none is a share of one half.
+/// The share without asymmetry: one half.
 const HALF: i128 = 1 << 39;
 
 /// A delay that a calibration asks for.

@@ -1,4 +1,4 @@
--- What is written of what is expected for an input, and what is then left.
+-- How much of what is expected for an input is written, and what is then left.
 use Rattle.std.proofs.Common.{◌≡◌, inl, inr, true, false, ℕ, ◌+◌, ◌<◌, Bool, Option, List, [], ◌++◌, length, take, refl, sym, ap, ◌∙◌, subst, append-nil, length-append, arith}
 use Rattle.std.proofs.KnownBytes.{Appends-nil}
 use Rattle.std.specs.Io.KnownBytes.{Appends}
