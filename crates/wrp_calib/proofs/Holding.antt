@@ -1,4 +1,4 @@
--- Where the true delays keep the stated errors, the intervals hold them.
+-- If the true delays keep the stated errors, the intervals hold them.
 use Rattle.std.proofs.Common.{◌≡◌, ◌≢◌, ℤ, pos, ◌^◌, ◌≤ℤ◌, ◌+ℤ◌, ◌-ℤ◌, ◌*ℤ◌, Bool, true, false, cond, int_lt, List, [], ◌∷◌, map, All, Result, Err, refl, sym, subst, arith}
 use Rattle.std.proofs.lemmas.Int.{ints}
 use Rattle.std.proofs.lemmas.List.Elements.{All-head, All-tail}
@@ -113,7 +113,7 @@ short : (delays : Delays) (b : Bool) (name : Unknown) (lo : ℤ) (answer : Resul
 short delays true name lo answer tells = tt
 short delays false name lo answer tells = tells refl
 
--- intervals that hold the truth are judged to do so, but for a strand that may be too short
+-- intervals that hold the truth are judged to do so, except for a strand that may be too short
 judged-tells : (delays : Delays) (p q x y : Span) → Holds p delays.p → Holds q delays.q → Holds x delays.x → Holds y delays.y →
     TellsTruth delays (judged p q x y)
 judged-tells delays p q x y at_p at_q at_x at_y =

@@ -1,4 +1,4 @@
--- For each input a status and a text are due: line by line, and then at the end.
+-- For each input a status and a text are expected: line by line, and then at the end.
 use Rattle.std.proofs.Common.{◌≡◌, ◌⊎◌, inl, inr, ℕ, ◌+◌, ◌<◌, List, [], ◌∷◌, ◌++◌, length, map, Result, Ok, Err, refl, sym, subst, arith, length-append, append_assoc}
 use Rattle.std.specs.List.{AllByRecursion}
 use Rattle.std.proofs.lemmas.Bool.{cases_lt}
@@ -18,7 +18,7 @@ use Rattle.wrp_calib.specs.Recorded.{Say, ending_of}
 use Rattle.wrp_calib.proofs.LinesTelling.{one_due}
 use Rattle.wrp_calib.proofs.Saying.{say_more}
 
--- a status and a text are due for these lines
+-- a status and a text are expected for these lines
 abbrev Answered : List (List ℕ) → Type 0
 Answered lines = (status : Status) × (text : List ℕ) × RecordsAnswer calibration lines status text
 

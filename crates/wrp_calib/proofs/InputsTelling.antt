@@ -1,4 +1,4 @@
--- What is due for an input whose records keep the stated errors tells the truth.
+-- What is expected for an input whose records keep the stated errors is true.
 use Rattle.std.proofs.Common.{◌≡◌, ℕ, List, [], ◌∷◌, ◌++◌, map, refl, sym, ap, ◌∙◌, subst}
 use Rattle.std.proofs.lemmas.List.{map-append}
 use Rattle.wrp_records.specs.declared.machine.Refusal.TheVariants.{BadTrace}

@@ -52,7 +52,7 @@ takes_cord fields e d ep held calib is read stands records holds =
       },
     )
 
--- behind two records a line is a run's
+-- after two records a line is a run's
 further_line : (n : ℕ) (fields : List (List ℕ)) → record_of (suc (suc n) + 1) fields ≡ run_line fields
 further_line n fields =
     let one : (suc (suc n) + 1 == 1) ≡ false = grind arith in

@@ -1,4 +1,4 @@
--- For the lines of a calibration one text is due, and no line is both a record and none.
+-- For the lines of a calibration one text is expected, and no line is both a record and none.
 use Rattle.std.proofs.Common.{◌≡◌, ℕ, ◌+◌, length, List, ◌∷◌, ◌++◌, refl, sym, ap, ◌∙◌}
 use Rattle.wrp_base.specs.declared.fault.TraceFault.{TraceFault}
 use Rattle.wrp_calib.specs.Lines.{CalibRecord}
@@ -47,7 +47,7 @@ never_both lines t u p q =
     let same : Answered t ≡ Barred u = one_ending lines p.0 q.0 (Answered t) (Barred u) p.1 q.1 p.2 q.2 in
     cc
 
--- so a record's line is not refused, and one that is is refused in one way
+-- so a record's line is not refused, and a line that is refused is refused in one way
 never_refused : (before behind : List (List ℕ)) (line t last : List ℕ) (refusal : Refusal)
     → Accepts (before ++ line ∷ behind) t → Refuses before line refusal last → ⊥
 never_refused before behind line t last BadTrace accepted refused = not_both before behind line t refused.0 accepted refused.1

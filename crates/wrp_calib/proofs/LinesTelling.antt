@@ -1,4 +1,4 @@
--- Where true delays keep the stated errors, what is due behind the lines tells the truth.
+-- If true delays keep the stated errors, what is expected after the lines is true.
 use Rattle.std.proofs.Common.{◌≡◌, ◌⊎◌, inl, inr, ℕ, ℤ, List, get_or, Option, Result, Ok, Err, refl, sym, ap, ap₂, ◌∙◌, arith}
 use Rattle.wrp_calib.specs.declared.calibration.CalibOut.{CalibOut}
 use Rattle.wrp_calib.specs.declared.calibration.CalibFault.{CalibFault}
@@ -29,7 +29,7 @@ refusal_is delays (Err (Missing kind)) tells line is = absurd tells
 refusal_is delays (Err (Conflict name lo hi)) tells line is = absurd tells
 refusal_is delays (Err (Short name lo)) tells line is = let same : line ≡ short_line name lo = cc in (name, lo, same)
 
--- one of the two is due
+-- one of the two is expected
 pub one_due : (lines : List (List ℕ)) (records : List CalibRecord) → Say lines records → (ending : Ending) → ending_of records ≡ ending
     → ((text : List ℕ) × Closes lines text) ⊎ ((line : List ℕ) × Bars lines line)
 one_due lines records say (Answered text) is = inl (text, (records, say, is))

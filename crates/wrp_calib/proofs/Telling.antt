@@ -1,4 +1,4 @@
--- The answer from the kept ends is the answer that is due after the runs.
+-- The answer from the kept ends is the answer that is expected after the runs.
 use Rattle.std.proofs.Common.{◌≡◌, ℤ, List, [], ◌∷◌, map, Option, Result, refl, ap, ap₂, ◌∙◌, sym, arith}
 use Rattle.std.proofs.lemmas.Int.{ints, clamps}
 use Rattle.wrp_calib.specs.declared.span.Span.{Span}

@@ -135,7 +135,7 @@ tightest x y one_x some_x one_y some_y other holds =
 
 -- ---- answers
 
--- what is so of a refusal where it is made, and of the answer where it is not
+-- what is so for a refusal if it is made, and for the answer if it is not
 either : (So : Result CalibOut CalibFault → Type 0) (b : Bool) (refusal answer : Result CalibOut CalibFault) →
     (b ≡ true → So refusal) → (b ≡ false → So answer) → So (cond b refusal answer)
 either So true refusal answer at_refusal at_answer = at_refusal refl

@@ -1,4 +1,4 @@
--- The answer of a calibration: its four delays and its asymmetry, or the first thing that stands against them (this
+-- The answer of a calibration: its four delays and its asymmetry, or the first reason why there is none (this
 -- project's profile).
 use Rattle.std.specs.Prelude.{pos, if◌then◌else◌, int_lt, List, [], ◌∷◌, Result, Ok, Err}
 use Rattle.wrp_calib.specs.declared.span.Span.{Span}
@@ -33,7 +33,7 @@ answer_from errors (r ∷ rs) (s ∷ ss) (w ∷ ws) =
     let q = ports_span errors up_of r rs in
     judged p q (strand_span errors p q s ss w ws) (strand_span errors p q w ws s ss)
 
--- the answer that is due after these runs
+-- the answer that is expected after these runs
 abbrev pub answer_of : Errors → List Run → Result CalibOut CalibFault
 answer_of errors runs =
     answer_from errors (runs_of Ref runs) (runs_of Straight runs) (runs_of Swapped runs)

@@ -1,5 +1,6 @@
--- What the runs tell of the four delays and of the asymmetry: the interval that each run gives, and their intersections
--- (this project's profile). p and q are the delays of the ports on the way down and up, x and y those of the two strands.
+-- What the runs show of the four delays and of the asymmetry: the interval that each run gives, and their
+-- intersections (this project's profile). p and q are the delays of the ports on the way down and up, x and y the
+-- delays of the two strands.
 use Rattle.std.specs.Prelude.{ℕ, ℤ, pos, ◌^◌, ◌+ℤ◌, ◌-ℤ◌, ◌*ℤ◌, List, ◌++◌, ◌∷◌, map}
 use Rattle.wrp_base.specs.Division.{floor_quotient, ceil_quotient}
 use Rattle.wrp_calib.specs.declared.span.Span.{Span}
@@ -26,7 +27,7 @@ strand_interval errors ports f = record {
   hi = (f +ℤ pos errors.e) -ℤ ports.lo;
 }
 
--- the intersection of the ports' intervals: of p where `way` is the delay down, of q where it is the delay up
+-- the intersection of the ports' intervals: of p if `way` is the delay down, of q if it is the delay up
 abbrev pub ports_span : Errors → (Run → ℤ) → Run → List Run → Span
 ports_span errors way r rs =
     let told = λ (run : Run). ports_interval errors (way run) in

@@ -56,24 +56,24 @@ all_kinds = Ref ∷ Straight ∷ Swapped ∷ []
 abbrev pub kind_named : List ℕ → Option RunKind
 kind_named text = find (λ kind. is_word (word_of kind) text) all_kinds
 
--- where a line has so many fields, what they say
+-- if a line has this many fields, what they say
 abbrev pub counted : {A : Type 0} → ℕ → List (List ℕ) → Result A TraceFault → Result A TraceFault
 counted count fields said = if length fields == count then said else Err Fields
 
--- `E`, behind `err`
+-- `E`, after `err`
 abbrev pub error_said : List (List ℕ) → Result CalibRecord TraceFault
 error_said fields = do
   e ← error_at 2 fields
   Ok (SaysError e)
 
--- `D,EP`, behind `patch`
+-- `D,EP`, after `patch`
 abbrev pub cord_said : List (List ℕ) → Result CalibRecord TraceFault
 cord_said fields = do
   d ← delay_at 2 fields
   ep ← error_at 3 fields
   Ok (SaysCord d ep)
 
--- `T1,T2,T3,T4,SKEW`, behind the word of a kind of runs
+-- `T1,T2,T3,T4,SKEW`, after the word of a kind of runs
 abbrev pub run_said : RunKind → List (List ℕ) → Result CalibRecord TraceFault
 run_said kind fields = do
   t1 ← time_at 2 fields

@@ -13,7 +13,7 @@ use Rattle.wrp_calib.specs.Recorded.{Answered, Barred, Say, ending_of}
 abbrev pub Accepts : List (List ℕ) → List ℕ → Type 0
 Accepts lines text = (records : List CalibRecord) × Say lines records × (text ≡ [])
 
--- behind records of a calibration a line is none, by this fault
+-- after records of a calibration a line is none, for this fault
 abbrev pub IsFaulty : List (List ℕ) → List ℕ → TraceFault → Type 0
 IsFaulty lines line fault =
     (records : List CalibRecord) × Say lines records × (record_read (length lines + 1) line ≡ Err fault)

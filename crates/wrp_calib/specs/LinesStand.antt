@@ -1,4 +1,4 @@
--- What stands for the lines of a calibration that were taken (this project's profile).
+-- What represents the lines of a calibration that were taken (this project's profile).
 use Rattle.std.specs.Prelude.{◌≡◌, ℕ, ◌+◌, ◌^◌, ◌≤◌, Result, Ok, Err, List, [], ◌∷◌, ◌++◌, length}
 use Rattle.wrp_base.specs.declared.fault.TraceFault.{TraceFault}
 use Rattle.wrp_records.specs.declared.machine.Closing.{Closing}
@@ -58,7 +58,7 @@ TakesRun old new fields (Err fault) =
     (new ≡ old) × ((records : List CalibRecord) → HoldsRuns old records
     → record_of (length records + 1) fields ≡ Err fault)
 
--- this is what is due at the end, and it is told so
+-- this is what is expected at the end, and it is reported so
 abbrev pub IsTold : Ending → Closing → List ℕ → Type 0
 IsTold ending closing.Closed text = ending ≡ Answered text
 IsTold ending closing.BadCalib text = ending ≡ Barred text

@@ -1,4 +1,4 @@
--- What a calibration's octets tell of the true delays, by the status that they come with (this project's profile).
+-- What a calibration's octets show of the true delays, by the status that they come with (this project's profile).
 use Rattle.std.specs.Prelude.{ℕ, List, map}
 use Rattle.wrp_records.specs.declared.status.Status.{Status}
 use Rattle.wrp_records.specs.declared.status.Status.TheVariants.{Done, BadTrace, Broken, BadCalib}
@@ -24,7 +24,7 @@ TellsSo BadTrace text true = ⊥
 TellsSo Broken text true = ⊥
 TellsSo status text true = Unit {0}
 
--- whatever is due for such an input tells so
+-- whatever is expected for such an input says so
 abbrev pub InputsTellTruth : Type 0
 InputsTellTruth =
     (input : List ℕ) (true : Delays) → SayTruly input true

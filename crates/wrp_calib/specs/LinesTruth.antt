@@ -1,4 +1,4 @@
--- What the text of a calibration tells of the true delays (this project's profile).
+-- What the text of a calibration shows of the true delays (this project's profile).
 use Rattle.std.specs.Prelude.{◌≡◌, ◌⊎◌, ℕ, ℤ, All, Some, List}
 use Rattle.wrp_calib.specs.declared.calibration.CalibOut.{CalibOut}
 use Rattle.wrp_calib.specs.declared.calibration.Unknown.{Unknown}
@@ -26,7 +26,7 @@ HoldsTruth true text = (out : CalibOut) × (text ≡ answer_lines out) × HoldsA
 abbrev pub IsShort : List ℕ → Type 0
 IsShort line = (name : Unknown) × (lo : ℤ) × (line ≡ short_line name lo)
 
--- what is due behind these lines: an answer that holds the truth, or that a strand may be too short
+-- what is expected after these lines: an answer that holds the truth, or that a strand may be too short
 pub record TellTruth (lines : List (List ℕ)) (true : Delays) : Type 0 where
   pub due : ((text : List ℕ) × Closes lines text) ⊎ ((line : List ℕ) × Bars lines line)
   pub answer : (text : List ℕ) → Closes lines text → HoldsTruth true text
@@ -38,7 +38,7 @@ LinesTellTruth =
     (lines : List (List ℕ)) (records : List CalibRecord) (true : Delays) → Say lines records → KeepStated records true
     → TellTruth lines true
 
--- where a conflict is told no delays keep them
+-- if a conflict is reported, no delays keep them
 abbrev pub ConflictsAreReal : Type 0
 ConflictsAreReal =
     (lines : List (List ℕ)) (name : Unknown) (lo hi : ℤ) → Bars lines (conflict_line name lo hi)

@@ -1,4 +1,4 @@
--- What the lines of a calibration say as a whole: the stated errors, the runs, and what is written behind the last line
+-- What the lines of a calibration say as a whole: the stated errors, the runs, and what is written after the last line
 -- (this project's profile).
 use Rattle.std.specs.Prelude.{◌≡◌, ℕ, ◌+◌, Option, None, Some, Result, Ok, Err, List, [], ◌∷◌, reverse, codes}
 use Rattle.std.specs.List.{filter_map}
@@ -10,7 +10,8 @@ use Rattle.wrp_calib.specs.Answer.{answer_of}
 use Rattle.wrp_calib.specs.Lines.{CalibRecord, SaysError, SaysCord, SaysRun, record_read}
 use Rattle.wrp_calib.specs.Printing.{answer_lines, fault_line, missing_line}
 
--- each line says its record: the first one that of this number, and each further one that of the next number
+-- each line says its record: the first line the record of this number, and each further line the record of the next
+-- number
 abbrev pub SayFrom : ℕ → List (List ℕ) → List CalibRecord → Type 0
 SayFrom number [] [] = Unit {0}
 SayFrom number (line ∷ lines) (said ∷ records) =
@@ -21,13 +22,13 @@ SayFrom number lines records = ⊥
 abbrev pub Say : List (List ℕ) → List CalibRecord → Type 0
 Say lines records = SayFrom 1 lines records
 
--- how far a measured delay may be off, where the records say it
+-- how far a measured delay may be off, if the records say it
 abbrev pub error_in : List CalibRecord → Option ℕ
 error_in [] = None
 error_in (SaysError e ∷ records) = Some e
 error_in (said ∷ records) = error_in records
 
--- what the patch cord takes and how far that may be off, where the records say it
+-- what the patch cord takes and how far that may be off, if the records say it
 abbrev pub cord_in : List CalibRecord → Option Cord
 cord_in [] = None
 cord_in (SaysCord d ep ∷ records) = Some (record { d = d; ep = ep })
@@ -42,12 +43,12 @@ run_in said = None
 abbrev pub runs_in : List CalibRecord → List Run
 runs_in records = reverse (filter_map run_in records)
 
--- what is written behind the last line: an answer, or the line of a refusal of the records as a whole
+-- what is written after the last line: an answer, or the line of a refusal of the records as a whole
 pub data Ending : Type 0 where
   Answered : (text : List ℕ) → Ending
   Barred : (line : List ℕ) → Ending
 
--- the answer, or what stands against it
+-- the answer, or why there is none
 abbrev pub ending_by : Result CalibOut CalibFault → Ending
 ending_by (Ok out) = Answered (answer_lines out)
 ending_by (Err fault) = Barred (fault_line fault)
@@ -58,6 +59,6 @@ ending_with None cord runs = Barred (missing_line (codes "err"))
 ending_with (Some e) None runs = Barred (missing_line (codes "patch"))
 ending_with (Some e) (Some cord) runs = ending_by (answer_of (record { e = e; d = cord.d; ep = cord.ep }) runs)
 
--- what is due behind the last of these records
+-- what is expected after the last of these records
 abbrev pub ending_of : List CalibRecord → Ending
 ending_of records = ending_with (error_in records) (cord_in records) (runs_in records)

@@ -19,7 +19,7 @@ point x = record { lo = x; hi = x }
 abbrev pub meet : Span → Span → Span
 meet a b = record { lo = int_max a.lo b.lo; hi = int_min a.hi b.hi }
 
--- the intersection of an interval and those of a list
+-- the intersection of an interval and the intervals of a list
 abbrev pub intersection : Span → List Span → Span
 intersection span [] = span
 intersection span (next ∷ rest) = meet span (intersection next rest)

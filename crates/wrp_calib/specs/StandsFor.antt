@@ -6,7 +6,7 @@ use Rattle.wrp_calib.specs.Span.{point, meet, intersection, IsSmall}
 use Rattle.wrp_calib.specs.Run.{Run, runs_of, down_of, up_of}
 use Rattle.wrp_calib.specs.Estimate.{Errors}
 
--- what a calibration keeps: what it was told of the errors, and of each kind the greatest and the least measured delays
+-- what a calibration keeps: the errors that it was given, and of each kind the greatest and the least measured delays
 pub record CalibAt : Type 0 where
   pub errors : Errors
   pub reference : Option Ends

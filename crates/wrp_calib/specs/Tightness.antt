@@ -53,7 +53,7 @@ pub record IsTight (errors : Errors) (runs : List Run) (out : CalibOut) : Type 0
   pub y : (delay : ℤ) → Holds out.y delay → Allow errors runs Y delay
   pub kappa : IsTightest out.kappa out.x out.y
 
--- so it is of each answer; and a strand is called too short only where the runs allow the least end of its interval,
+-- so it is for each answer; and a strand is called too short only if the runs allow the least end of its interval,
 -- which is below 1
 abbrev pub AnswersAreTight : Errors → List Run → Result CalibOut CalibFault → Type 0
 AnswersAreTight errors runs (Ok out) = IsTight errors runs out

@@ -1,4 +1,4 @@
--- The true delays of a calibration, what they keep of the stated errors, and what an answer tells of them (this
+-- The true delays of a calibration, what they keep of the stated errors, and what an answer shows of them (this
 -- project's profile).
 use Rattle.std.specs.Prelude.{ℤ, pos, ◌^◌, ◌≤ℤ◌, ◌+ℤ◌, ◌*ℤ◌, ◌≢◌, List, [], Result, Ok, Err}
 use Rattle.wrp_base.specs.Closeness.{IsWithin}

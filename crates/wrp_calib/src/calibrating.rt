@@ -8,8 +8,8 @@ use std::alloc::Global;
 use wrp_io::{Sink, Source};
 use wrp_records::{Status, run_all_lines};
 
-/// Reads the lines of a calibration from a source to its end, and writes the answer to a sink, or the line
-/// of what stands against it.
+/// Reads the lines of a calibration from a source to its end, and writes the answer to a sink, or the
+/// line that says why there is none.
 pub fn calibrate<S: Source, K: Sink>(alloc: Global, source: &mut S, sink: &mut K) -> Status
     ensures passes { PassesAll (of_lines calibration) (passage S.left S.faults source.old source.new)
         (passage K.held K.faults sink.old sink.new) result }

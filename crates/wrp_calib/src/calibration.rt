@@ -10,10 +10,10 @@ use crate::span::Span;
 use std::marker::Model;
 use wrp_base::{ceil_div, difference, floor_div, product, sum};
 
-/// The asymmetry is told in units of `2^-40`.
+/// The asymmetry is given in units of `2^-40`.
 const UNIT: i128 = 1 << 40;
 
-/// An asymmetry of none is a share of one half.
+/// The share without asymmetry: one half.
 const HALF: i128 = 1 << 39;
 
 /// A delay that a calibration asks for.
@@ -29,7 +29,7 @@ pub enum Unknown {
     Y,
 }
 
-/// What a calibration tells: intervals that hold the true values, all in tau but `kappa`.
+/// What a calibration gives: intervals that hold the true values, all in tau but `kappa`.
 #[derive(Clone, Copy, Debug, PartialEq, Eq)]
 pub struct CalibOut {
     /// The ports' delay from master to slave.
@@ -44,8 +44,8 @@ pub struct CalibOut {
     pub kappa: Span,
 }
 
-/// Why a calibration tells nothing. Where several causes stand, the first is told, in the order of the
-/// variants, and in each the first kind or name.
+/// Why a calibration gives no answer. If there are several causes, the first is reported, in the order
+/// of the variants, and within each the first kind or name.
 #[derive(Clone, Copy, Debug, PartialEq, Eq)]
 pub enum CalibFault {
     /// No run of this kind came.
@@ -62,7 +62,7 @@ pub enum CalibFault {
         /// The upper end.
         hi: i128,
     },
-    /// This strand, x or y, may be shorter than 1 tau: no asymmetry can be told.
+    /// This strand, x or y, may be shorter than 1 tau: no asymmetry can be given.
     Short {
         /// Which strand.
         name: Unknown,
@@ -153,14 +153,14 @@ impl Calib {
         }
     }
 
-    /// The delays and the asymmetry that the runs tell, or the first fault: `Missing` for a kind of
+    /// The delays and the asymmetry that the runs give, or the first fault: `Missing` for a kind of
     /// which no run came, else `Conflict` for a delay whose interval is empty, else `Short` for a
     /// strand that may be shorter than 1 tau. The calibration stays as it is.
     pub fn answer(&self) -> Result<CalibOut, CalibFault>
         ensures value { (errors : Errors) (runs : List Run) → StandsFor errors self.now runs →
             result ≡ answer_of errors runs }
 
-        // Where the true delays keep the stated errors in all runs, and runs of every kind came, each
+        // If the true delays keep the stated errors in all runs, and runs of every kind came, each
         // interval holds its true value, or a strand may be too short.
         ensures truth { (errors : Errors) (runs : List Run) (true : Delays) → StandsFor errors self.now runs →
             CameAll runs → All (KeepsErrors errors true) runs → TellsTruth true result }

@@ -1,4 +1,4 @@
-//! The lines of a calibration: each is taken as it comes, and what they tell is written behind the last.
+//! The lines of a calibration: each is taken as it comes, and the answer is written after the last.
 ghost use Rattle.std.specs.Prelude.{◌≡◌, ◌+◌, ◌++◌, ◌∷◌, [], ℕ, List, IfErr, IfOk, OnOk};
 ghost use Rattle.csv.specs.Records.{fields_of};
 ghost use Rattle.wrp_calib.specs.declared.lines.Held.TheVariants as held;
@@ -106,7 +106,7 @@ impl CalibLines {
         }
     }
 
-    // Appends what is due after the last line.
+    // Appends what is expected after the last line.
     fn end(&self, alloc: Global, text: &mut Vec<u8>) -> Result<Closing, AllocError>
         requires { text.old.items ≡ [] }
         ensures { IfOk result (λ closing. (lines : List (List ℕ))

@@ -44,7 +44,7 @@ impl Ends {
         }
     }
 
-    /// These ends with those of older runs.
+    /// These ends joined with the ends of older runs.
     pub fn join(self, older: Option<Ends>) -> Ends
         requires new { HasSmallEnds self }
         requires old { IfSome older HasSmallEnds }

@@ -2,7 +2,7 @@
 ghost use Rattle.std.specs.Prelude.{◌≡◌, ℕ};
 ghost use Rattle.wrp_calib.specs.Span.{point, meet, is_empty, IsSmall};
 
-/// An interval of whole numbers with both its ends. It is empty where `lo` is above `hi`.
+/// An interval of whole numbers with both its ends. It is empty if `lo` is above `hi`.
 #[derive(Clone, Copy, Debug, PartialEq, Eq)]
 pub struct Span {
     /// The lower end.

@@ -19,8 +19,8 @@ pub data Request : Type 0 where
   OnNetwork : (command : Networked) → Request
   StandAlone : (alone : Alone) → Request
 
--- what a command line says: the request that its words are, or none where they are no command; and the line that is written
--- where a command line is refused
+-- what a command line says: the request that its words are, or none if they are no command; and the line that is
+-- written if a command line is refused
 pub record CommandLine : Type 0 where
   pub request : Option Request
   pub usage : List ℕ

@@ -27,7 +27,7 @@ none_before end (held ∷ queue) =
       | false ↦ λ is. let later : held_at end (take (place end queue) queue) ≡ [] = none_before end queue in simp (is, one_more_taken) later
     ] refl
 
--- where the search finds none, none is held for the end
+-- if the search finds none, none is held for the end
 pub none_held : (end : ℕ) (queue : List Held) → position (λ held. held.end == end) queue ≡ None → held_at end queue ≡ []
 none_held end queue none =
     let past : length queue ≤ place end queue = grind (arith, nat_tests) in

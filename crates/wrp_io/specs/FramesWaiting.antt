@@ -23,11 +23,11 @@ all_sent_to end calls = filter_map (octets_sent_to end) calls
 abbrev pub all_received_at : ℕ → List LinkCall → List (List ℕ)
 all_received_at end calls = filter_map (octets_received_at end) calls
 
--- what waits at this end: what was sent to it, but for as many of the first as were received there
+-- what waits at this end: what was sent to it, except as many of the first frames as were received there
 abbrev pub waiting_at : ℕ → List LinkCall → List (List ℕ)
 waiting_at end calls = drop (length (all_received_at end calls)) (all_sent_to end calls)
 
--- what waits at each end, as a link tells it that tells these calls
+-- what waits at each end, as a link that reports these calls reports it
 abbrev pub frames_waiting : List LinkCall → FramesWaiting
 frames_waiting calls end = Some (waiting_at end calls)
 

@@ -1,5 +1,5 @@
--- What the calls of a link do to the list of calls that it tells and to what waits at its ends
--- (this project's profile).
+-- What the calls of a link do to the list of calls that it reports and to what waits at its ends (this project's
+-- profile).
 use Rattle.std.specs.Prelude.{◌≡◌, ◌≢◌, ℕ, ◌+◌, ◌-◌, ◌%◌, ◌==◌, if◌then◌else◌, Bool, List, [], ◌∷◌, ◌++◌, Option, Some, None, Result, IfSome, MatchResult, MatchBool}
 use Rattle.std.specs.Option.{option_map}
 use Rattle.arrayvec.specs.ArrayVec.{ArrayVec}
@@ -17,11 +17,11 @@ frame_of octets = record { items = octets }
 abbrev pub octets_of : Option (ArrayVec ℕ) → Option (List ℕ)
 octets_of found = option_map (λ frame. frame.items) found
 
--- the frame that a `recv` answers: that of the octets, where its answer is true
+-- the frame that a `recv` answers: the frame of the octets, if its answer is true
 abbrev pub answered : Bool → List ℕ → Option (ArrayVec ℕ)
 answered answer octets = if answer then Some (frame_of octets) else None
 
--- a call that answers Ok is the last one told, with its answer; one that fails is not told
+-- a call that answers Ok is the last one reported, with its answer; one that fails is not reported
 abbrev pub Tells : {T E : Type 0} → Option (List LinkCall) → Option (List LinkCall) → Result T E
     → (T → LinkCall) → Type 0
 Tells before now result call =
@@ -29,7 +29,7 @@ Tells before now result call =
     (λ answer. now ≡ option_map (λ calls. calls ++ call answer ∷ []) before)
     (λ _. now ≡ before)
 
--- what waits at each end, in the order of waiting, where it is told
+-- what waits at each end, in the order of waiting, if it is reported
 abbrev pub FramesWaiting : Type 0
 FramesWaiting = ℕ → Option (List (List ℕ))
 
@@ -37,7 +37,7 @@ FramesWaiting = ℕ → Option (List (List ℕ))
 abbrev pub SameWaits : FramesWaiting → FramesWaiting → Type 0
 SameWaits before now = (end : ℕ) → now end ≡ before end
 
--- the octets wait behind those that waited at this end before, and at the other ends the same waits
+-- the octets wait after those that waited at this end before, and at the other ends the same waits
 pub record PutsAt (before now : FramesWaiting) (end : ℕ) (octets : List ℕ) : Type 0 where
   pub last : now end ≡ option_map (λ waiting. waiting ++ octets ∷ []) (before end)
   pub elsewhere : (other : ℕ) → other ≢ end → now other ≡ before other
@@ -58,7 +58,7 @@ abbrev pub Sends : {E : Type 0} → FramesWaiting → FramesWaiting → Result (
 Sends before now result end octets =
     MatchResult result (λ _. PutsAt before now (other_end end) octets) (λ _. SameWaits before now)
 
--- what a `recv` at this end leaves waiting, where these are the octets of its frame
+-- what a `recv` at this end leaves waiting, if these are the octets of its frame
 abbrev pub Receives : {E : Type 0} → FramesWaiting → FramesWaiting → Result Bool E → ℕ → List ℕ
     → Type 0
 Receives before now result end octets =

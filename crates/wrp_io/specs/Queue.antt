@@ -42,8 +42,8 @@ MovesFrame before now call =
     → Carries (calls ++ call ∷ []) now
     × Moves (frames_waiting calls) (frames_waiting (calls ++ call ∷ [])) call
 
--- what a link in memory keeps: the queue carries what was sent, no more is held than was told and
--- no more was told than was called, and there is room for as many calls as it takes
+-- what a link in memory keeps: the queue carries what was sent, no more is held than was reported and no more was
+-- reported than was called, and there is room for as many calls as it takes
 pub record Keeps (told : List LinkCall) (queue : List Held)
     (made room told_capacity queue_capacity : ℕ) : Type 0 where
   pub carries : Carries told queue

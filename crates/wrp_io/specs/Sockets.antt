@@ -21,7 +21,7 @@ with_ends link ends = record link { ends = ends + ends % 2 }
 abbrev pub with_fault : UdpLinkAt → UdpLinkAt
 with_fault link = record link { faults = one_more link.faults }
 
--- what a start that gave up leaves: a fault is counted, and want of memory is none
+-- what a start that gave up leaves: a fault is counted, and running out of memory is none
 abbrev pub NotStarted : UdpLinkAt → UdpLinkAt → StartFault → Type 0
 NotStarted before now Failed = now ≡ with_fault before
 NotStarted before now (Memory _) = now ≡ before

@@ -1,6 +1,6 @@
-//! The trusted edge: a source over a reader of std, and a sink over a writer. The source tells what
-//! its reader knows to be left, which is nothing of a file. The sink tells no octets, since a flush
-//! that fails comes after octets were taken.
+//! The trusted edge: a source over a reader of std, and a sink over a writer. The source reports what
+//! its reader knows to be left; of a file the reader knows nothing. The sink reports no octets, since a
+//! flush that fails comes after octets were taken.
 ghost use Rattle.std.specs.Prelude.{◌≡◌, ◌<◌, ◌≤◌, ℕ, None, length, take, IfOk, IfSome};
 ghost use Rattle.std.specs.Io.KnownBytes.{Appends, WriteAppends};
 ghost use Rattle.wrp_io.specs.Faults.{HasCause};
@@ -89,7 +89,7 @@ impl<W: Write> Sink for StdSink<W> {
         ensures octets { WriteAppends None None result piece.now }
         ensures cause { HasCause self.old.faults self.new.faults result }
 
-        // Where the writer's octets are known, it took the first of the piece.
+        // If the writer's octets are known, it took the first octets of the piece.
         ensures taken { IfOk result (λ n.
             Appends (W.contents (writer_of self.old)) (W.contents (writer_of self.new))
             (take n piece.now)) }

@@ -40,7 +40,7 @@ impl Calls {
         self.made
     }
 
-    /// Counts one more call. `Failed` exactly where it is listed or the object's room is used up: the
+    /// Counts one more call. `Failed` if and only if it is listed or the object's room is used up: the
     /// call is counted all the same, and so is its fault.
     pub fn next(&mut self, used_up: bool) -> Result<(), Failed>
         ensures cause { HasCause self.old.faults self.new.faults result }

@@ -1,8 +1,8 @@
-//! The outside of `wrnet` as three traits, each with a meaning that contracts can cite: a `Source`
-//! of octets, a `Sink` of octets and a `Link` that carries frames between the ends of a network's
-//! links. Objects in memory tell what they hold, and fail exactly where they are told to. The
-//! adapters over std's readers and writers, and the link over sockets, are the trusted edge. The
-//! whole is this project's profile.
+//! The outside of `wrnet` as three traits, each with a meaning that contracts can cite: a `Source` of
+//! octets, a `Sink` of octets and a `Link` that carries frames between the ends of a network's links.
+//! Objects in memory report what they hold, and fail if and only if they are set to. The adapters over
+//! std's readers and writers, and the link over sockets, are the trusted edge. All of this is this
+//! project's profile.
 #![tactic(auto)]
 
 mod adapters;

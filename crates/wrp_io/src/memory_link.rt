@@ -14,8 +14,8 @@ use std::alloc::{AllocError, Global};
 use std::marker::Model;
 use wrp_base::Frame;
 
-/// A link that takes a number of calls, and carries what is sent from one end of a link to its
-/// other end. It tells its calls, and what waits at its ends.
+/// A link that takes a number of calls, and carries what is sent from one end of a link to its other
+/// end. It reports its calls, and what waits at its ends.
 #[derive(Drop)]
 pub struct MemLink {
     told: Vec<LinkCall>,
@@ -36,9 +36,9 @@ impl Model for MemLink {
 impl MemLink {
     ghost use Rattle.wrp_io.specs.declared.link.LinkCall.TheVariants.{Receive};
 
-    /// A link that takes `calls` calls, of which those with a number in `fails`, counted from 1,
-    /// fail. It takes all the memory that it will need. `AllocError` where there is not that much: no
-    /// link is made.
+    /// A link that takes `calls` calls, of which those with a number in `fails`, counted from 1, fail.
+    /// It takes all the memory that it will need. `AllocError` if there is not that much: then no link
+    /// is made.
     pub fn new(alloc: Global, calls: u32, fails: Vec<u32>) -> Result<MemLink, AllocError>
         ensures { IfOk result (λ link. link ≡ new_link calls fails.items) }
     {
@@ -103,8 +103,8 @@ impl Link for MemLink {
         ensures tells { Tells (Some self.old.told) (Some self.new.told) result (λ _. Start ends) }
         ensures waits { SameWaits (frames_waiting self.old.told) (frames_waiting self.new.told) }
 
-        // It fails exactly at a listed call and where the link was called as often as it takes, and
-        // never for want of memory.
+        // It fails if and only if the call is listed or the link was called as often as it takes, and
+        // never because memory runs out.
         ensures fails { IsErr result ↔ LinkFails self.old }
         ensures failed { IfErr result (λ fault. fault ≡ StartFault.Failed) }
         ensures good { OnOk result (self.new ≡ with_call self.old (Start ends)) }
@@ -124,7 +124,7 @@ impl Link for MemLink {
         ensures waits { Sends (frames_waiting self.old.told) (frames_waiting self.new.told)
             result end bytes.now }
 
-        // It fails exactly at a listed call and where the link was called as often as it takes.
+        // It fails if and only if the call is listed or the link was called as often as it takes.
         ensures fails { IsErr result ↔ LinkFails self.old }
         ensures good { OnOk result (self.new ≡ with_call self.old (Send end (frame_of bytes.now))) }
         ensures bad { OnErr result (self.new ≡ with_fault self.old) }
@@ -140,7 +140,7 @@ impl Link for MemLink {
             result end out.new.items }
         ensures stays { result ≢ Ok true → out.new ≡ out.old }
 
-        // It fails exactly at a listed call and where the link was called as often as it takes.
+        // It fails if and only if the call is listed or the link was called as often as it takes.
         ensures fails { IsErr result ↔ LinkFails self.old }
         ensures good { IfOk result (λ answer.
             self.new ≡ with_call self.old (Receive end (answered answer out.new.items))) }

@@ -11,7 +11,7 @@ use crate::source::Failed;
 use std::alloc::{AllocError, Global};
 use std::marker::Model;
 
-/// A sink that keeps what it is given, up to its room. It tells its octets.
+/// A sink that keeps what it is given, up to its room. It reports its octets.
 #[derive(Drop)]
 pub struct MemSink {
     octets: Vec<u8>,
@@ -28,9 +28,9 @@ impl Model for MemSink {
 }
 
 impl MemSink {
-    /// A sink with room for `room` octets, whose calls with a number in `fails`, counted from 1,
-    /// fail. It takes all the memory that it will need. `AllocError` where there is not that much: no
-    /// sink is made.
+    /// A sink with room for `room` octets, whose calls with a number in `fails`, counted from 1, fail.
+    /// It takes all the memory that it will need. `AllocError` if there is not that much: then no sink
+    /// is made.
     pub fn new(alloc: Global, room: usize, fails: Vec<u32>) -> Result<MemSink, AllocError>
         ensures { IfOk result (λ sink.
             sink ≡ record { held = []; room = room; calls = no_calls fails.items }) }
@@ -61,8 +61,8 @@ impl Sink for MemSink {
         ensures octets { WriteAppends (Some self.old.held) (Some self.new.held) result piece.now }
         ensures cause { HasCause self.old.calls.faults self.new.calls.faults result }
 
-        // It fails exactly at the listed calls and where its room is used up, and else takes all
-        // that there is room for.
+        // It fails if and only if the call is listed, or the piece has octets and the room is used up;
+        // otherwise it takes all that there is room for.
         ensures fails { IsErr result ↔ SinkFails self.old piece.now }
         ensures takes { IfOk result (λ n. n ≡ min (length piece.now) (room_left self.old)) }
         ensures room { self.new.room ≡ self.old.room }

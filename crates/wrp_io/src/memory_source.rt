@@ -9,7 +9,7 @@ use crate::calls::Calls;
 use crate::source::{Failed, Source};
 use std::marker::Model;
 
-/// A source of the octets that it was given. It tells them.
+/// A source of the octets that it was given. It reports them.
 #[derive(Drop)]
 pub struct MemSource {
     bytes: Vec<u8>,
@@ -67,7 +67,7 @@ impl Source for MemSource {
         ensures octets { ReadConsumes (Some self.old.left) (Some self.new.left) result buf.new }
         ensures cause { HasCause self.old.calls.faults self.new.calls.faults result }
 
-        // It fails exactly at the listed calls, and else gives all that the buffer holds.
+        // It fails if and only if the call is listed; otherwise it gives all that the buffer holds.
         ensures fails { IsErr result ↔ IsListed self.old.calls }
         ensures gives { IfOk result (λ n. n ≡ min (length buf.old) (length self.old.left)) }
         ensures beyond { IfOk result (λ n. drop n buf.new ≡ drop n buf.old) }

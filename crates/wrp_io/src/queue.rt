@@ -24,7 +24,7 @@ pub fn copy_of(octets: &[u8]) -> Frame
     copy
 }
 
-/// The same frame; None exactly where there is none.
+/// The same frame; None if and only if there is none.
 pub fn copied(frame: &Option<Frame>) -> Option<Frame>
     ensures { result ≡ frame.now }
 {
@@ -56,7 +56,7 @@ fn first_place(queue: &[Held], end: u32) -> Option<usize>
     queue.iter().position(|held| held.end == end)
 }
 
-/// The frame that has waited longest at this end; None exactly where none waits there.
+/// The frame that has waited longest at this end; None if and only if none waits there.
 pub fn first_held(queue: &[Held], end: u32) -> Option<Frame>
     ensures { option_map (λ frame. frame.items) result ≡ slice_get (held_at end queue.now) 0 }
 {

@@ -7,14 +7,14 @@ use crate::source::Failed;
 
 /// Where octets go.
 pub trait Sink {
-    /// The octets that the sink holds, where it tells them.
+    /// The octets that the sink holds, if it reports them.
     ghost held: { Self → Option (List ℕ) } = { λ _. None };
 
     /// How often the sink has failed. The count is a u64, and stays at its greatest value.
     ghost faults: { Self → ℕ };
 
-    /// Appends the first octets of `piece`, and answers how many: at least one where there is one.
-    /// `Failed` where the sink failed: its count of faults rose. Where it tells its octets, none was
+    /// Appends the first octets of `piece`, and answers how many: at least one if there is one.
+    /// `Failed` if the sink failed: its count of faults rose, and if it reports its octets, none was
     /// appended.
     fn write(&mut self, piece: &[u8]) -> Result<usize, Failed>
         ensures bound { IfOk result (λ n. n ≤ length piece.now) }

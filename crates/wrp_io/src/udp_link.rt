@@ -1,6 +1,6 @@
-//! A link over sockets of this machine, at the trusted edge as the adapters are. It tells neither
-//! its calls nor what waits at its ends: what the system does between a `send` and a `recv` is
-//! outside what is proved.
+//! A link over sockets of this machine, at the trusted edge as the adapters are. It reports neither its
+//! calls nor what waits at its ends: what the system does between a `send` and a `recv` is outside what
+//! is proved.
 ghost use Rattle.std.specs.Prelude.{Ok, true, None, ◌≡◌, ◌≢◌, ◌+◌, ◌%◌, ◌≤◌, length, vec_len, IsOk, IsErr, OnOk, OnErr, IfOk, IfErr};
 ghost use Rattle.wrp_io.specs.Faults.{HasCause, HasStartCause};
 ghost use Rattle.wrp_io.specs.Link.{frame_of, answered, Tells, SameWaits, Sends, Receives};
@@ -15,7 +15,7 @@ use std::marker::Model;
 use std::net::{Ipv4Addr, Net, SocketAddrV4, UdpSocket};
 use wrp_base::{FRAME_ROOM, Frame};
 
-// More datagrams than a system usually keeps for a socket; where more came, the start fails.
+// More datagrams than a system usually keeps for a socket; if more came, the start fails.
 const MOST_EARLIER: u32 = 65_536;
 
 /// A link over UDP sockets on 127.0.0.1, one for each end. No call waits. The two ends of a link are
@@ -35,7 +35,7 @@ impl<'a, R: Net> Model for UdpLink<'a, R> {
 }
 
 impl<'a, R: Net> UdpLink<'a, R> {
-    /// A link without ends, whose sockets will be those of `rt`.
+    /// A link without ends, whose sockets will be sockets of `rt`.
     pub fn new(rt: &'a R, alloc: Global) -> UdpLink<'a, R>
         ensures { result ≡ not_started }
     {
@@ -78,7 +78,7 @@ fn drop_earlier(socket: &UdpSocket) -> io::Result<()> {
     Err(io::Error::from(io::ErrorKind::Other))
 }
 
-// The sockets of this many ends, of which two and two are connected.
+// The sockets of this many ends, which are connected in pairs.
 fn sockets_of<R: Net>(rt: &R, alloc: Global, ends: u32) -> io::Result<Vec<UdpSocket>>
     ensures pairs { IfOk result (λ sockets. vec_len sockets ≡ ends + ends % 2) }
     ensures none { ends ≡ 0 → IsOk result }
@@ -126,8 +126,8 @@ impl<'a, R: Net> Link for UdpLink<'a, R> {
 
     ghost faults = { λ s. s.faults };
 
-    /// Makes `ends` ends, and one more where that is odd, in place of those that the link had, with
-    /// what waits there. A call of the system that fails is a fault, but for want of memory.
+    /// Makes `ends` ends, and one more if that is odd, in place of the ends that the link had, with
+    /// what waits there. A call of the system that fails is a fault, unless memory ran out.
     fn start(&mut self, ends: u32) -> Result<(), StartFault>
         ensures cause { HasStartCause self.old.faults self.new.faults result }
         ensures tells { Tells None None result (λ _. Start ends) }
@@ -154,15 +154,15 @@ impl<'a, R: Net> Link for UdpLink<'a, R> {
         }
     }
 
-    /// Sends the octets as one datagram. An end that the link has not is a fault, and so is a call
-    /// of the system that fails, or that takes less.
+    /// Sends the octets as one datagram. An end that the link does not have is a fault, and so is a
+    /// call of the system that fails, or that takes less.
     fn send(&mut self, end: u32, bytes: &[u8]) -> Result<(), Failed>
         requires { length bytes.now ≤ 256 }
         ensures cause { HasCause self.old.faults self.new.faults result }
         ensures tells { Tells None None result (λ _. Send end (frame_of bytes.now)) }
         ensures waits { Sends (λ _. None) (λ _. None) result end bytes.now }
 
-        // An end that the link has not is a fault.
+        // An end that the link does not have is a fault.
         ensures absent { self.old.ends ≤ end → IsErr result }
         ensures good { OnOk result (self.new ≡ self.old) }
         ensures bad { OnErr result (self.new ≡ with_fault self.old) }
@@ -175,8 +175,8 @@ impl<'a, R: Net> Link for UdpLink<'a, R> {
         Ok(())
     }
 
-    /// Answers false where nothing waits. A datagram past 256 octets is cut there. An end that the
-    /// link has not is a fault, and so is any other answer of the system.
+    /// Answers false if nothing waits. A datagram past 256 octets is cut there. An end that the link
+    /// does not have is a fault, and so is any other answer of the system.
     fn recv(&mut self, end: u32, out: &mut Frame) -> Result<bool, Failed>
         ensures cause { HasCause self.old.faults self.new.faults result }
         ensures tells { Tells None None result
@@ -184,7 +184,7 @@ impl<'a, R: Net> Link for UdpLink<'a, R> {
         ensures waits { Receives (λ _. None) (λ _. None) result end out.new.items }
         ensures stays { result ≢ Ok true → out.new ≡ out.old }
 
-        // An end that the link has not is a fault.
+        // An end that the link does not have is a fault.
         ensures absent { self.old.ends ≤ end → IsErr result }
         ensures good { OnOk result (self.new ≡ self.old) }
         ensures bad { OnErr result (self.new ≡ with_fault self.old) }

@@ -1,4 +1,4 @@
--- What an answer shows: the records before its last line write what stands before that line.
+-- What an answer shows: the records before its last line write what comes before that line.
 use Rattle.std.proofs.Common.{◌≡◌, ◌∙◌, inl, inr, ap, sym, subst, refl, ℕ, List, [], ◌∷◌, ◌++◌, ◌+◌, length, map}
 use Rattle.std.proofs.lemmas.List.{append-nil, length-map}
 use Rattle.wrp_l1sync.specs.LineAnswers.{AnswersShowThePair, Names, ShowsBy, ShowsFirst, ShowsFront, ShowsWhole, WhatStandsShowsThePair}
@@ -72,11 +72,11 @@ by_answer input TooLarge text (inr p) = absurd (never_barred (map content_of (li
 by_answer input BadCalib text p = absurd (never_barred (map content_of (lines_of input)) BadCalib p.last p.broken)
 by_answer input _ text p = absurd p
 
--- each answer shows how both ends stand
+-- each answer shows the state of both ends
 pub answers_show_the_pair : AnswersShowThePair
 answers_show_the_pair input status text answer = by_answer input status text answer.1
 
--- what stands of an answer that broke off
+-- what is left of an answer that broke off
 by_front : (input text : List ℕ) → StandsFirst meaning (lines_of input) text → ShowsFront input text
 by_front input text (inl p) = record {
   front = p.front;

@@ -1,4 +1,4 @@
--- Behind records each line is a record too, or is refused.
+-- After records each line is a record too, or is refused.
 use Rattle.std.proofs.Common.{◌≡◌, ◌⊎◌, inl, inr, refl, ℕ, ◌+◌, Option, None, Some, Result, Ok, Err, List, [], ◌∷◌, ◌++◌, length}
 use Rattle.wrp_base.specs.declared.fault.TraceFault.{TraceFault}
 use Rattle.wrp_l1sync.specs.declared.event.Breach.{Breach}
@@ -14,7 +14,7 @@ use Rattle.wrp_records.specs.declared.machine.Refusal.{Refusal}
 use Rattle.wrp_records.specs.declared.machine.Refusal.TheVariants as refusals
 use Rattle.wrp_records.specs.Refusals.{bad_trace_line}
 
--- behind lines that wrote this a line is a record that writes more, or it is refused
+-- after lines that wrote this a line is a record that writes more, or it is refused
 abbrev pub IsDecided : List (List ℕ) → (text line : List ℕ) → Type 0
 IsDecided lines text line =
     ((more : List ℕ) × Accepts (lines ++ line ∷ []) (text ++ more))
@@ -59,7 +59,7 @@ later_decided first later text line (Ok event) accepted is =
 later_decided first later text line (Err fault) accepted is =
     inr (refusals.BadTrace, bad_trace_line (length (first ∷ later) + 1) fault, (fault, is, refl))
 
--- behind records each line is decided
+-- after records each line is decided
 pub decided : (lines : List (List ℕ)) (text line : List ℕ) → Accepts lines text → IsDecided lines text line
 decided [] text line accepted = first_decided text line (limits_read line) accepted refl
 decided (first ∷ later) text line accepted = later_decided first later text line (event_read line) accepted refl

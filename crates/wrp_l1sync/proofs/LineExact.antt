@@ -1,4 +1,4 @@
--- For the lines of `l1sync` one answer is due; and what the first of them write stands first.
+-- For the lines of `l1sync` one answer is expected; and what the first of them write comes first.
 use Rattle.std.proofs.Common.{◌≡◌, ◌∙◌, ap, ap₂, sym, subst, refl, ℕ, ◌+◌, Some, Result, Ok, Err, List, [], ◌∷◌, ◌++◌, append_assoc, length, None, reverse}
 use Rattle.std.proofs.lemmas.List.{append-nil}
 use Rattle.wrp_base.specs.declared.fault.TraceFault.{TraceFault}
@@ -22,7 +22,7 @@ accepted_front : (limits : Limits) (newer older : List L1Event) → AreAccepted 
 accepted_front limits [] older are = are
 accepted_front limits (event ∷ newer) older are = accepted_front limits newer older are.1
 
--- and what is written of them stands first
+-- and what is written for them comes first
 pub text_front : (limits : Limits) (newer older : List L1Event) → (more : List ℕ) × (text_of limits (newer ++ older) ≡ text_of limits older ++ more)
 text_front limits [] older = ([], sym (append-nil (text_of limits older)))
 text_front limits (event ∷ newer) older =
@@ -32,7 +32,7 @@ text_front limits (event ∷ newer) older =
           ∙ append_assoc (text_of limits older) rest.0 (event_text limits (newer ++ older) event),
     )
 
--- the first of lines that are records are records, and what they write stands first
+-- the first of lines that are records are records, and what they write comes first
 pub accepts_front : (first : List ℕ) (later behind : List (List ℕ)) (text : List ℕ) → Accepts (first ∷ (later ++ behind)) text →
     (written : List ℕ) × (more : List ℕ) × (text ≡ written ++ more) × Accepts (first ∷ later) written
 accepts_front first later behind text accepted =
@@ -62,7 +62,7 @@ one_text (first ∷ later) t u p q =
     let same = one_list (first ∷ later) p.0 q.0 p.1 q.1 p.2 q.2 in
     p.3.wrote ∙ ap₂ (λ (l : Limits) (es : List L1Event). text_of l es) same.0 same.1 ∙ sym q.3.wrote
 
--- a line that breaks a premise is not accepted behind the same lines
+-- a line that breaks a premise is not accepted after the same lines
 never_accepted : (first : List ℕ) (later behind : List (List ℕ)) (line t last : List ℕ) (number : ℕ) (limits : Limits) (events : List L1Event) →
     Accepts (first ∷ (later ++ line ∷ behind)) t → Say (first ∷ later) limits events → Breaks limits events number line last → ⊥
 never_accepted first later behind line t last number limits events accepted say breaks =
@@ -79,7 +79,7 @@ never_accepted first later behind line t last number limits events accepted say 
     let both : Some breaks.breach ≡ None = sym breaks.broken ∙ kept.0 in
     absurd cc
 
--- a line that is refused is not accepted behind the same lines
+-- a line that is refused is not accepted after the same lines
 not_both : (before behind : List (List ℕ)) (line t last : List ℕ) (refusal : Refusal) → Accepts (before ++ line ∷ behind) t →
     Refuses before line refusal last → ⊥
 not_both [] behind line t last refusals.BadTrace p q = let both : Err q.0 ≡ Ok p.0 = sym q.1 ∙ p.2.0 in absurd cc

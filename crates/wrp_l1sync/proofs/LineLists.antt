@@ -1,4 +1,4 @@
--- Lines say one list of events, and a line more says one event more.
+-- Lines say one list of events, and one more line says one more event.
 use Rattle.std.proofs.Common.{◌≡◌, ◌∙◌, ap, ap₂, sym, refl, ℕ, Result, Ok, Err, List, [], ◌∷◌, ◌++◌, map, reverse}
 use Rattle.std.proofs.lemmas.List.{map-append, reverse-append, reverse-reverse}
 use Rattle.wrp_base.specs.declared.fault.TraceFault.{TraceFault}
@@ -14,7 +14,7 @@ ok event = Ok event
 turned : (event : L1Event) (events : List L1Event) → reverse (event ∷ events) ≡ reverse events ++ event ∷ []
 turned event events = reverse-append (event ∷ []) events
 
--- a line more says an event more
+-- one more line says one more event
 pub say_more : (first : List ℕ) (later : List (List ℕ)) (limits : Limits) (events : List L1Event) (line : List ℕ) (event : L1Event) →
     Say (first ∷ later) limits events → event_read line ≡ Ok event → Say (first ∷ (later ++ line ∷ [])) limits (event ∷ events)
 say_more first later limits events line event say is = (
@@ -70,7 +70,7 @@ divided (line ∷ later) behind (event ∷ all) e =
     let tail : map event_read (later ++ behind) ≡ map ok all = cc in
     divided_more line later behind event all head (divided later behind all tail)
 
--- the first of some lines say the first of their events: newest first, those that stand last
+-- the first of some lines say the first of their events, which are last in the list, newest first
 pub say_front : (first : List ℕ) (later behind : List (List ℕ)) (limits : Limits) (events : List L1Event) →
     Say (first ∷ (later ++ behind)) limits events →
     (newer : List L1Event) × (older : List L1Event) × (events ≡ newer ++ older) × Say (first ∷ later) limits older
@@ -82,7 +82,7 @@ say_front first later behind limits events say =
       (say.0, parts.front ∙ ap (map ok) (sym (reverse-reverse parts.one))),
     )
 
--- a line that says no event stands among no lines that do
+-- a line that says no event is not among lines that do
 pub never_among : (later behind : List (List ℕ)) (line : List ℕ) (fault : TraceFault) (events : List L1Event) →
     map event_read (later ++ line ∷ behind) ≡ map (λ (event : L1Event). Ok event) events → event_read line ≡ Err fault → ⊥
 never_among [] behind line fault [] are is = absurd cc

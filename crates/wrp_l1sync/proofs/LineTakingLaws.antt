@@ -37,7 +37,7 @@ pub happen_more : (limits : Limits) (events : List L1Event) (event : L1Event) (b
 happen_more limits events event before text happened accepted is =
     record { accepted = accepted; wrote = ap₂ (λ (a b : List ℕ). a ++ b) happened.wrote is }
 
--- a line is taken behind others
+-- a line is taken after others
 took_line : (old new : PairAt) (first : List ℕ) (later : List (List ℕ)) (events : List L1Event) (line before text : List ℕ) →
     IsPairOf old (first ∷ later) events → TookEvent old new events line text → Accepts (first ∷ later) before →
     HasTaken (record { pair = Some new }) (first ∷ (later ++ line ∷ [])) × Accepts (first ∷ (later ++ line ∷ [])) (before ++ text)
@@ -55,7 +55,7 @@ took_line old new first later events line before text is took accepted =
       (old.limits, took.event ∷ events, say, happen_more old.limits events took.event before text happened kept took.wrote),
     )
 
--- the pair that is held is the one that stands for the lines
+-- the pair that is held is the one that represents the lines
 is_held : (held : L1Lines) (old : PairAt) (first : List ℕ) (later : List (List ℕ)) → held.pair ≡ Some old → HasTaken held (first ∷ later) →
     (events : List L1Event) × IsPairOf old (first ∷ later) events
 is_held held old first later is has =
@@ -84,7 +84,7 @@ refuses_line old new first later number line text events refusal.BadTrace is bad
 refuses_line old new first later number line text events refusal.Broken is breaks counts =
     (old.limits, events, is.say, subst (λ (n : ℕ). Breaks old.limits events n line text) counts breaks)
 
--- a pair refuses a line behind others
+-- a pair refuses a line after others
 pub goes_wrong : {E : Type 0} (held : L1Lines) (old new : PairAt) (number : ℕ) (line text : List ℕ) (result : Result Taken E) → held.pair ≡ Some old →
     ((events : List L1Event) → StandsFor old events → IfOk result (GoesOn old new events number line text)) →
     (lines : List (List ℕ)) (why : Refusal) → IfOk result (λ taken. taken ≡ Refused why → HasTaken held lines → number ≡ length lines + 1 →

@@ -1,4 +1,4 @@
--- The text shows how both ends stand.
+-- The text shows the state of both ends.
 use Rattle.std.proofs.Common.{◌≡◌, ◌∙◌, ap, sym, subst, refl, ℕ, if◌then◌else◌, Bool, true, false, List, [], ◌∷◌, ◌++◌, append_assoc, length, Option, None, Some, codes, unwrap_or}
 use Rattle.std.specs.Fmt.{decimal}
 use Rattle.std.specs.Option.{option_map, option_or}
@@ -28,9 +28,9 @@ use Rattle.wrp_l1sync.proofs.LineWords.{line_first, words_joined}
 use Rattle.wrp_l1sync.proofs.PrintedLaws.{shows_up}
 use Rattle.wrp_l1sync.proofs.TheoremLaws.{one_up, two_up}
 
--- ---- what a text tells of an end
+-- ---- what a text gives for an end
 
--- before whatever stands behind, a text tells this last of an end
+-- whatever follows it, a text gives this state last for an end
 abbrev Tells : Side → List ℕ → Option L1State → Type 0
 Tells side text told = (rest : List ℕ) → last_told side (lines_in (text ++ rest)) ≡ option_or (last_told side (lines_in rest)) told
 
@@ -70,7 +70,7 @@ state_is_word LinkAlive = refl
 state_is_word ConfigMatch = refl
 state_is_word Up = refl
 
--- the line of an end's state tells it of this end alone
+-- the line of an end's state gives it for this end alone
 told_state : (side of : Side) (tick : List ℕ) (state : L1State) →
     told_by side (end_word of ∷ tick ∷ state_word state ∷ []) ≡ (if is_side of side then Some state else None)
 told_state A A tick Disabled = refl
@@ -86,9 +86,9 @@ told_state B B tick LinkAlive = refl
 told_state B B tick ConfigMatch = refl
 told_state B B tick Up = refl
 
--- ---- what is written of an event
+-- ---- what is written for an event
 
--- what an answer of an end tells of an end
+-- what an answer of an end gives for an end
 abbrev told_of : Side → Side → Option L1State → Option L1State
 told_of side of moved = if is_side of side then moved else None
 
@@ -117,7 +117,7 @@ tells_out side of tick number out =
     (tells_both side (send_text of tick number out.send) (state_text of tick out.moved) None (told_of side of out.moved)
     (tells_send side of tick number out.send) (tells_state side of tick out.moved))
 
--- what an event tells of an end
+-- what an event gives for an end
 abbrev told_at : Side → Option ℕ → L1Out → Option L1State
 told_at side None out = None
 told_at side (Some number) out = told_of side (side_of number) out.moved
@@ -127,7 +127,7 @@ tells_at side None h out = tells_nothing side
 tells_at side (Some number) h out =
     tells_out side (side_of number) (ticks_of (inputs_of (handed (side_of number) h))) (length h.sent) out
 
--- what events tell of an end, newest first
+-- what events give for an end, newest first
 abbrev told_in : Limits → Side → List L1Event → Option L1State
 told_in limits side [] = None
 told_in limits side (event ∷ before) =
@@ -157,7 +157,7 @@ change_shown ConfigMatch ConfigMatch told e = e
 change_shown Up Up told e = e
 change_shown from to told e = refl
 
--- what an input tells of an end
+-- what an input gives for an end
 abbrev told_with : Limits → History → Side → Option Handing → Option L1State
 told_with limits h side None = None
 told_with limits h side (Some handing) =
@@ -202,7 +202,7 @@ handed_grown : (interval : ℕ) (h : History) (event : L1Event) (side : Side) �
 handed_grown interval h event A = refl
 handed_grown interval h event B = refl
 
--- what events tell of an end is the state that looking back finds
+-- what events give for an end is the state that looking back finds
 told_state_is : (limits : Limits) (side : Side) (events : List L1Event) →
     unwrap_or (told_in limits side events) Disabled ≡ state_of limits.timeout (inputs_of (handed side (history limits.interval events)))
 told_state_is limits A [] = refl
@@ -233,7 +233,7 @@ shows_both first later text accepted =
       (λ a b. two_up limits events accepted.3.accepted (sym (each A).state ∙ a) (sym (each B).state ∙ b)),
     )
 
--- after each record what is written shows how both ends stand
+-- after each record what is written shows the state of both ends
 pub text_shows_the_pair : TextShowsThePair
 text_shows_the_pair lines text accepted first later behind is =
     let front = accepts_front first later behind text (subst (λ (ls : List (List ℕ)). Accepts ls text) is accepted) in

@@ -1,4 +1,4 @@
--- A line is told by its words.
+-- A line is known by its words.
 use Rattle.std.proofs.Common.{◌≡◌, ◌∙◌, ap, sym, refl, ℕ, ◌==◌, not, true, false, List, [], ◌∷◌, ◌++◌, append_assoc}
 use Rattle.std.specs.List.{AllByRecursion, list_all, slice_split, onto_first}
 use Rattle.std.proofs.lemmas.Bool.{and_parts, not-true}
@@ -54,7 +54,7 @@ pub line_first : (words : List (List ℕ)) (rest : List ℕ) → AreWords words 
 line_first words rest h =
     ap (λ (l : List ℕ). lines_in l) (line_joined words rest) ∙ split_at 10 (joined words) rest (joined_lacks words h) refl
 
--- and its words are those that it was made of
+-- and its words are the ones that it was made of
 pub words_joined : (word : List ℕ) (words : List (List ℕ)) → AreWords (word ∷ words) → words_in (joined (word ∷ words)) ≡ word ∷ words
 words_joined word [] h = split_none 32 word (lacks_space word h.0)
 words_joined word (other ∷ words) h =

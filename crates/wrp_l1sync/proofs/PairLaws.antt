@@ -1,4 +1,4 @@
--- One more event: looking back finds what the event makes of the pair that stood before it.
+-- One more event: looking back finds what the event makes of the pair before it.
 use Rattle.std.proofs.Common.{◌≡◌, ◌∙◌, ap, sym, subst, refl, ℕ, ◌+◌, if◌then◌else◌, List, ◌∷◌, length, Option, None, Some, Result, Ok, Err, IsOk, IsErr, arith}
 use Rattle.std.specs.Option.{option_map}
 use Rattle.wrp_base.specs.Calls.{Adds}
@@ -65,7 +65,7 @@ sends-pair limits count h (Tick number) =
     ap (λ m. option_map (sent_by (side_of number) h.time) m) (due-side limits count h (side_of number))
 sends-pair limits count h _ = refl
 
--- looking back over one event more
+-- looking back over one more event
 pub pair-after : (limits : Limits) (count : ℕ) (h : History) (event : L1Event) →
     changed (noted (pair_at limits count h) event) event ≡ pair_at limits (count + 1) (grown limits.interval h event)
 pair-after limits count h event =
@@ -99,7 +99,7 @@ out-pair limits count h event =
 
 -- ---- the list of events
 
--- the premise that is told is the one that looking back finds
+-- the premise that is reported is the one that looking back finds
 pub breach_looked_back : (pair : PairAt) (events : List L1Event) (event : L1Event) (told : Option Breach) →
     told ≡ breach_by pair event → StandsFor pair events → told ≡ breach_of pair.limits (history pair.limits.interval events) event
 breach_looked_back pair events event told is stands = is ∙ ap (λ p. breach_by p event) stands.is
@@ -123,7 +123,7 @@ silent_looked_back pair events event result ok stands kept none =
     (ap (λ p. sends_of p event) stands.is
     ∙ sends-pair pair.limits (length events) (history pair.limits.interval events) event ∙ none)
 
--- an answer that is Ok tells no premise
+-- an answer that is Ok reports no premise
 pub none_told : (result : Result L1Out L1Refused) → IsOk result → told_breach result ≡ None
 none_told (Ok out) ok = refl
 none_told (Err refused) ok = absurd cc
@@ -133,7 +133,7 @@ pub accepted_looked_back : (pair : PairAt) (events : List L1Event) (event : L1Ev
 accepted_looked_back pair events event result is ok stands =
     (sym (breach_looked_back pair events event (told_breach result) is stands) ∙ none_told result ok, stands.accepted)
 
--- an accepted event goes in front of those that a pair stands for
+-- an accepted event goes in front of the events that a pair stands for
 pub Adds-event : (old new : PairAt) (event : L1Event) (result : Result L1Out L1Refused) →
     new ≡ changed (noted old event) event → told_breach result ≡ breach_by old event → IsOk result → Adds StandsFor old new event
 Adds-event old new event result moved told ok events stands =

@@ -1,4 +1,4 @@
--- One more input: looking back finds what the input makes of the port that stood before it.
+-- One more input: looking back finds what the input makes of the port before it.
 use Rattle.std.proofs.Common.{◌≡◌, ◌∙◌, ap, ap₂, sym, refl, ℕ, ◌+◌, ◌-◌, ◌%◌, ◌==◌, ◌&&◌, nat_lt, not, Bool, true, false, if◌then◌else◌, List, [], ◌∷◌, Option, None, Some, arith}
 use Rattle.std.proofs.Math.Nat.{zero-mod}
 use Rattle.std.proofs.lemmas.Bool.Decides.{nat_tests}
@@ -47,7 +47,7 @@ kept-aged-by timeout ticks message true live =
 kept-aged-by timeout ticks message false dead =
     ap (λ c. if c then Some (kept_at message (timeout - (ticks + 1))) else None) (sym (past-last timeout ticks dead))
 
--- a message that is kept, one tick on
+-- a message that is kept, one tick later
 kept-aged : (timeout ticks : ℕ) (message : Option L1Msg) → aged (kept_by timeout ticks message) ≡ kept_by timeout (ticks + 1) message
 kept-aged timeout ticks None = refl
 kept-aged timeout ticks (Some message) = kept-aged-by timeout ticks message (nat_lt ticks timeout) refl
@@ -88,7 +88,7 @@ ticked-port timeout interval false own since message ticks none =
     ap (λ k. port_at timeout interval false own k (ticks % interval))
     (ap (λ m. kept_by timeout since m) (none refl) ∙ sym (ap (λ m. kept_by timeout (since + 1) m) (none refl)))
 
--- looking back over one input more
+-- looking back over one more input
 pub port-after : (timeout interval : ℕ) (input : L1In) (before : List L1In) →
     after (port_of timeout interval before) input ≡ port_of timeout interval (input ∷ before)
 port-after timeout interval Enable before =
@@ -141,7 +141,7 @@ keeps_settings port (Msg message) =
 keeps_settings port Tick =
     same-settings port.enabled (record port { kept = aged port.kept; turn = next_turn port }) port port.timeout port.interval (refl, refl) (refl, refl)
 
--- an input goes in front of those that a port stands for
+-- an input goes in front of the inputs that a port stands for
 pub Adds-input : (old new : PortAt) (input : L1In) → new ≡ after old input → Adds StandsFor old new input
 Adds-input old new input moved inputs stands =
     let is : new ≡ port_of old.timeout old.interval (input ∷ inputs) =

@@ -10,7 +10,7 @@ use Rattle.wrp_l1sync.specs.Inputs.{is_enabled}
 use Rattle.wrp_l1sync.specs.Pair.{History, Timed, delivery_breach, handed, inputs_of, is_side, last_of, late_by, not_sent, other, sent_at, side_of, too_old}
 use Rattle.wrp_l1sync.specs.Premises.{EventsAreTakenExactly, IsInTime, WasSent}
 
--- nothing is told only where a test fails
+-- nothing is reported only if a test fails
 from_none : {X : Type 0} (b : Bool) (x : X) → cond b (Some x) None ≡ None → b ≡ false
 from_none true x e = absurd (cc e)
 from_none false x e = refl

@@ -23,7 +23,7 @@ get_more [] ys i x e = absurd cc
 get_more (y ∷ xs) ys zero x e = e
 get_more (y ∷ xs) ys (suc i) x e = get_more xs ys i x e
 
--- the element of an index, where one more was added
+-- the element of an index, if one more was added
 abbrev IsOldOrLast : {X : Type 0} → List X → X → ℕ → X → Type 0
 IsOldOrLast xs one i x = (slice_get xs i ≡ Some x) ⊎ ((i ≡ length xs) × (one ≡ x))
 
@@ -53,7 +53,7 @@ more_by : (sent more : List Sent) (k : ℕ) (one : Sent) (b : Bool) → (if b th
 more_by sent more k one true e = e
 more_by sent more k one false e = get_more sent more (k - 1) one e
 
--- the message of a number, where one more was sent
+-- the message of a number, if one more was sent
 abbrev IsOldOrNew : List Sent → Sent → ℕ → Sent → Type 0
 IsOldOrNew sent one k message = (sent_at sent k ≡ Some message) ⊎ ((k ≡ length sent + 1) × (one ≡ message))
 

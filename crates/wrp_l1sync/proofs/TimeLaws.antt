@@ -12,7 +12,7 @@ use Rattle.wrp_l1sync.specs.Pair.{AreAccepted, History, Timed, breach_of, elapse
 use Rattle.wrp_l1sync.specs.Premises.{IsInTime}
 use Rattle.wrp_l1sync.proofs.PremiseLaws.{events_are_taken_exactly}
 
--- what an end was handed, with one event more
+-- what an end was handed, with one more event
 pub grown_to : (interval : ℕ) (h : History) (event : L1Event) (side : Side) →
     with_input h.time (handed side h) (input_to side (handing_of h.sent event)) ≡ handed side (grown interval h event)
 grown_to interval h event A = refl

@@ -79,8 +79,8 @@ pub record Agree (own peer : L1Msg) : Type 0 where
   pub own_holds : IsTrue (meets own.req own.is)
   pub peer_holds : IsTrue (meets own.req peer.is)
 
--- an end is up by a message that its peer sent and that it was handed; where the peer's own message was not set since it was
--- sent, both ends agree
+-- an end is up by a message that its peer sent and that it was handed; if the peer's own message was not set since it
+-- was sent, both ends agree
 pub record IsUpBy (limits : Limits) (events : List L1Event) (side : Side) : Type 0 where
   pub message : Sent
   pub k : ℕ
@@ -93,7 +93,7 @@ pub record IsUpBy (limits : Limits) (events : List L1Event) (side : Side) : Type
 
 -- ---- both ends
 
--- both ends are up, each by a message; where one of the two own messages was not set since it was sent, both ends agree
+-- both ends are up, each by a message; if one of the two own messages was not set since it was sent, both ends agree
 pub record AreUpBy (limits : Limits) (events : List L1Event) : Type 0 where
   pub a : IsUpBy limits events A
   pub b : IsUpBy limits events B

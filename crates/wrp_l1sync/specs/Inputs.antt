@@ -9,7 +9,7 @@ use Rattle.wrp_l1sync.specs.declared.interface.L1State.TheVariants.{Disabled, Id
 use Rattle.wrp_l1sync.specs.declared.message.L1Msg.{L1Msg}
 use Rattle.wrp_l1sync.specs.Message.{no_bits, meets}
 
--- an Enable stands after the last Disable
+-- an Enable comes after the last Disable
 abbrev pub is_enabled : List L1In → Bool
 is_enabled [] = false
 is_enabled (Enable ∷ before) = true
@@ -61,8 +61,8 @@ ticks_of (Tick ∷ before) = if is_enabled before then ticks_of before + 1 else 
 ticks_of (Enable ∷ before) = if is_enabled before then ticks_of before else 0
 ticks_of (_ ∷ before) = ticks_of before
 
--- what an input makes the port send: its own message at a tick while it is enabled, where `interval`
--- divides the tick count
+-- what an input makes the port send: its own message at a tick while it is enabled, if `interval` divides the tick
+-- count
 abbrev pub send_of : ℕ → List L1In → L1In → Option L1Msg
 send_of interval before Tick =
     if is_enabled before && ((ticks_of before + 1) % interval == 0) then Some (own_of before) else None
@@ -76,7 +76,7 @@ rank_of LinkAlive = 2
 rank_of ConfigMatch = 3
 rank_of Up = 4
 
--- the second of two states, where it differs from the first
+-- the second of two states, if it differs from the first
 abbrev pub change_of : L1State → L1State → Option L1State
 change_of from to = if rank_of from == rank_of to then None else Some to
 

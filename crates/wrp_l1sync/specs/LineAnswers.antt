@@ -21,8 +21,8 @@ Names Broken number last = (breach : Breach) × (last ≡ breach_line number bre
 Names TooLarge number last = last ≡ large_line number
 Names status number last = ⊥
 
--- the first lines of an input are records, and what they write stands first, behind it a last line that
--- names the next record; after each of them it shows how both ends stand
+-- the first lines of an input are records; what they write comes first, and after it a last line that names the next
+-- record; after each of them it shows the state of both ends
 pub record ShowsFirst (status : Status) (input text : List ℕ) : Type 0 where
   pub front : List (List ℕ)
   pub behind : List (List ℕ)
@@ -34,17 +34,17 @@ pub record ShowsFirst (status : Status) (input text : List ℕ) : Type 0 where
   pub accepted : Accepts (map content_of front) written
   pub shows : ShowsAfterEach (map content_of front) written
 
--- what an answer shows: where it is Done, of all lines of the input
+-- what an answer shows: if it is Done, for all lines of the input
 abbrev pub ShowsBy : Status → (input text : List ℕ) → Type 0
 ShowsBy Done input text = Accepts (map content_of (lines_of input)) text × ShowsAfterEach (map content_of (lines_of input)) text
 ShowsBy status input text = ShowsFirst status input text
 
--- each answer that is due for an input does
+-- each answer that is expected for an input does
 abbrev pub AnswersShowThePair : Type 0
 AnswersShowThePair =
     (input : List ℕ) (status : Status) (text : List ℕ) → (of_lines meaning).answers input [] status text → ShowsBy status input text
 
--- what stands of an answer that broke off: the first lines of an input are records, and this is what they write
+-- what is left of an answer that broke off: the first lines of an input are records, and this is what they write
 pub record ShowsFront (input text : List ℕ) : Type 0 where
   pub front : List (List ℕ)
   pub behind : List (List ℕ)
@@ -52,7 +52,7 @@ pub record ShowsFront (input text : List ℕ) : Type 0 where
   pub accepted : Accepts (map content_of front) text
   pub shows : ShowsAfterEach (map content_of front) text
 
--- what stands where the source failed behind these octets: their whole lines are records, and this is what they write
+-- what is left if the source failed after these octets: their whole lines are records, and this is what they write
 pub record ShowsWhole (taken text : List ℕ) : Type 0 where
   pub lines : List (List ℕ)
   pub cut : List ℕ
@@ -62,7 +62,7 @@ pub record ShowsWhole (taken text : List ℕ) : Type 0 where
   pub accepted : Accepts (map content_of lines) text
   pub shows : ShowsAfterEach (map content_of lines) text
 
--- what stands of any answer shows both ends so, and nothing does before the first record
+-- what is left of any answer shows both ends so, and before the first record the empty text does
 pub record WhatStandsShowsThePair : Type 0 where
   pub first : (input : List ℕ) (calls : List LinkCall) (text : List ℕ) → (of_lines meaning).first input calls text → ShowsFront input text
   pub cut : (taken text : List ℕ) → (of_lines meaning).cut taken text → ShowsWhole taken text

@@ -81,7 +81,7 @@ event_of_kind Disable fields = end_event event.Disable fields
 event_of_kind Own fields = own_of fields
 event_of_kind Deliver fields = deliver_of fields
 
--- the same, where the kind is known and has so many fields
+-- the same, if the kind is known and has this many fields
 abbrev pub counted_of : List (List ℕ) → Option EventKind → Result L1Event TraceFault
 counted_of fields None = Err Kind
 counted_of fields (Some kind) =

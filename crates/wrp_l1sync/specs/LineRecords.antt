@@ -13,15 +13,15 @@ use Rattle.wrp_l1sync.specs.Pair.{AreAccepted, breach_of, history}
 use Rattle.wrp_records.specs.LineMeaning.{LineMeaning, bars_none, meaning_by}
 use Rattle.wrp_records.specs.Refusals.{bad_trace_line}
 
--- the first of some lines says the limits of a pair of ends, and each later one an event; the events stand
--- newest first
+-- the first of some lines says the limits of a pair of ends, and each later one an event; the events are listed newest
+-- first
 abbrev pub Say : List (List ℕ) → Limits → List L1Event → Type 0
 Say [] limits events = ⊥
 Say (first ∷ later) limits events =
     (limits_read first ≡ Ok limits)
     × (map event_read later ≡ map (λ (event : L1Event). Ok event) (reverse events))
 
--- the events keep the premises, each in its turn, and this is what is written of them
+-- the events keep the premises, each in its turn, and this is what is written for them
 pub record Happen (limits : Limits) (events : List L1Event) (text : List ℕ) : Type 0 where
   pub accepted : AreAccepted limits events
   pub wrote : text ≡ text_of limits events
@@ -37,7 +37,7 @@ abbrev pub IsBad : {A : Type 0} → (List ℕ → Result A TraceFault) → ℕ �
 IsBad reading number line last =
     (fault : TraceFault) × (reading line ≡ Err fault) × (last ≡ bad_trace_line number fault)
 
--- the record of this number says an event that breaks a premise behind those before it
+-- the record of this number says an event that breaks a premise after the earlier ones
 pub record Breaks (limits : Limits) (before : List L1Event) (number : ℕ) (line last : List ℕ) : Type 0 where
   pub event : L1Event
   pub breach : Breach
@@ -45,8 +45,8 @@ pub record Breaks (limits : Limits) (before : List L1Event) (number : ℕ) (line
   pub broken : breach_of limits (history limits.interval before) event ≡ Some breach
   pub is : last ≡ breach_line number breach
 
--- behind some lines a line is refused, and this last line names it: it says no limits where it is the
--- first, and no event where it is a later one, or one that breaks a premise
+-- after some lines a line is refused, and this last line names it: it says no limits if it is the first, and no event
+-- if it is a later one, or one that breaks a premise
 abbrev pub Refuses : List (List ℕ) → List ℕ → Refusal → List ℕ → Type 0
 Refuses [] line BadTrace last = IsBad limits_read 1 line last
 Refuses [] line Broken last = ⊥

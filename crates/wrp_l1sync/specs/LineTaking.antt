@@ -1,4 +1,4 @@
--- The pair of ends that stands for the record lines that it has taken (this project's profile).
+-- The pair of ends that represents the record lines that it has taken (this project's profile).
 use Rattle.std.specs.Prelude.{◌≡◌, ℕ, ◌+◌, Option, None, Some, Ok, List, [], ◌∷◌}
 use Rattle.wrp_l1sync.specs.declared.event.L1Event.{L1Event}
 use Rattle.wrp_l1sync.specs.declared.lines.L1Lines.{L1Lines}
@@ -26,7 +26,7 @@ HasTaken held [] = held.pair ≡ None
 HasTaken held (first ∷ later) =
     (pair : PairAt) × (events : List L1Event) × (held.pair ≡ Some pair) × IsPairOf pair (first ∷ later) events
 
--- a pair took an event that a line says, and this is written of it
+-- a pair took an event that a line says, and this is written for it
 pub record TookEvent (old new : PairAt) (before : List L1Event) (line text : List ℕ) : Type 0 where
   pub event : L1Event
   pub says : event_read line ≡ Ok event

@@ -1,5 +1,5 @@
--- What `l1sync` writes of an event: the message that an end sends, and the state that it moves to (this
--- project's profile).
+-- What `l1sync` writes for an event: the message that an end sends, and the state that it moves to (this project's
+-- profile).
 use Rattle.std.specs.Prelude.{ℕ, ◌==◌, if◌then◌else◌, Option, None, Some, List, [], ◌∷◌, ◌++◌, length, codes}
 use Rattle.std.specs.Fmt.{decimal}
 use Rattle.wrp_l1sync.specs.declared.event.Breach.{Breach}
@@ -69,13 +69,13 @@ text_at None h out = []
 text_at (Some number) h out =
     out_text (side_of number) (ticks_of (inputs_of (handed (side_of number) h))) (length h.sent) out
 
--- what is written of an accepted event behind those before it, newest first
+-- what is written for an accepted event after the earlier ones, newest first
 abbrev pub event_text : Limits → List L1Event → L1Event → List ℕ
 event_text limits before event =
     text_at (end_of_event event) (history limits.interval (event ∷ before))
     (answer_of limits (history limits.interval before) event)
 
--- what is written of all these events, newest first
+-- what is written for all these events, newest first
 abbrev pub text_of : Limits → List L1Event → List ℕ
 text_of limits [] = []
 text_of limits (event ∷ before) = text_of limits before ++ event_text limits before event
@@ -88,7 +88,7 @@ premise_name premise =
     else if premise == 3 then codes "TooOld"
     else []
 
--- the last line where a record, counted from 1, breaks a premise
+-- the last line if a record, counted from 1, breaks a premise
 abbrev pub breach_line : ℕ → Breach → List ℕ
 breach_line number breach =
     broken_words number breach.premise (premise_name breach.premise) breach.shown breach.bound

@@ -32,18 +32,18 @@ all_states = Disabled ∷ Idle ∷ LinkAlive ∷ ConfigMatch ∷ Up ∷ []
 abbrev pub state_named : List ℕ → Option L1State
 state_named word = find (λ state. same_word (state_word state) word) all_states
 
--- the state that the words END TICK STATE tell of an end; no others tell one
+-- the state that the words END TICK STATE give for an end; no other words give one
 abbrev pub told_by : Side → List (List ℕ) → Option L1State
 told_by side (word ∷ tick ∷ state ∷ []) =
     if same_word (end_word side) word then state_named state else None
 told_by side _ = None
 
--- the last state that some lines tell of an end
+-- the last state that some lines give for an end
 abbrev pub last_told : Side → List (List ℕ) → Option L1State
 last_told side [] = None
 last_told side (line ∷ later) = option_or (last_told side later) (told_by side (words_in line))
 
--- the state that a text shows of an end: the last that it tells, and disabled where it tells none
+-- the state that a text shows for an end: the last that it gives, and disabled if it gives none
 abbrev pub shown : Side → List ℕ → L1State
 shown side text = unwrap_or (last_told side (lines_in text)) Disabled
 
@@ -54,20 +54,20 @@ pub record ShowsUp (limits : Limits) (events : List L1Event) (text : List ℕ) (
   pub back : List ℕ
   pub printed : text ≡ text_of limits by.sent.older ++ (send_line (other side) tick by.k by.message.msg ++ back)
 
--- a text shows how an end is after these events, newest first: in the state that looking back over what it was handed finds;
--- and where that is `up`, by a message that its peer sent and that it was handed since it was enabled
+-- a text shows how an end is after these events, newest first: in the state that looking back over what it was handed
+-- finds; and if that is `up`, by a message that its peer sent and that it was handed since it was enabled
 pub record Shows (limits : Limits) (events : List L1Event) (text : List ℕ) (side : Side) : Type 0 where
   pub state : shown side text ≡ state_of limits.timeout (inputs_of (handed side (history limits.interval events)))
   pub up : shown side text ≡ Up → ShowsUp limits events text side
 
--- it shows so of both ends after the events that some lines say; and where both are `up`, when they agree
+-- it shows so for both ends after the events that some lines say; and if both are `up`, when they agree
 abbrev pub ShowsBoth : List (List ℕ) → List ℕ → Type 0
 ShowsBoth lines text =
     (limits : Limits) × (events : List L1Event) × Say lines limits events
     × ((side : Side) → Shows limits events text side)
     × (shown A text ≡ Up → shown B text ≡ Up → AreUpBy limits events)
 
--- after each of some records: what the first of them write stands first, and shows so of both ends
+-- after each of some records: what the first of them write comes first, and shows so for both ends
 abbrev pub ShowsAfterEach : List (List ℕ) → List ℕ → Type 0
 ShowsAfterEach lines text =
     (first : List ℕ) (later behind : List (List ℕ)) → lines ≡ first ∷ (later ++ behind) →

@@ -122,13 +122,13 @@ abbrev pub with_sent : List Sent → Option Sent → List Sent
 with_sent sent None = sent
 with_sent sent (Some one) = sent ++ (one ∷ [])
 
--- the message that an event makes an end send: at its tick, the one that is due
+-- the message that an event makes an end send: at its tick, the one that is due then
 abbrev pub new_sent : ℕ → History → L1Event → Option Sent
 new_sent interval h (Tick number) =
     option_map (sent_by (side_of number) h.time) (send_of interval (inputs_of (handed (side_of number) h)) given.Tick)
 new_sent interval h _ = None
 
--- what happened, with one event more
+-- what happened, with one more event
 abbrev pub grown : ℕ → History → L1Event → History
 grown interval h event =
     record {
@@ -167,7 +167,7 @@ delivery_breach life now to k last None = Some (not_sent k last)
 delivery_breach life now to k last (Some sent) =
     if is_side sent.by to then Some (not_sent k last) else too_old life (now - sent.at)
 
--- the premise that an event breaks, the least, by what stands at both ends
+-- the premise that an event breaks, the least, by the state of both ends
 abbrev pub breach_with :
     Limits → (now : ℕ) → (enabled_a : Bool) (last_a : ℕ) → (enabled_b : Bool) (last_b : ℕ) → List Sent → L1Event → Option Breach
 breach_with limits now enabled_a last_a enabled_b last_b sent (Pass dt) =
@@ -201,7 +201,7 @@ out_for timeout interval h (Some handing) = out_of timeout interval (inputs_of (
 abbrev pub answer_of : Limits → History → L1Event → L1Out
 answer_of limits h event = out_for limits.timeout limits.interval h (handing_of h.sent event)
 
--- the premise that an answer tells
+-- the premise that an answer reports
 abbrev pub told_breach : Result L1Out L1Refused → Option Breach
 told_breach (Ok out) = None
 told_breach (Err (Broken premise shown bound)) = Some (record { premise = premise; shown = shown; bound = bound })
@@ -227,7 +227,7 @@ end_of timeout interval timed =
       last = last_of timed;
     }
 
--- the pair after so many events, in which this happened
+-- the pair after this many events, in which this happened
 abbrev pub pair_at : Limits → ℕ → History → PairAt
 pair_at limits count h =
     record {

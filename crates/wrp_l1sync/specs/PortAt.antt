@@ -21,7 +21,7 @@ pub record PortAt : Type 0 where
   pub kept : Option Kept
   pub turn : ℕ
 
--- a message that so many ticks follow, while it is kept
+-- a message that this many ticks follow, while it is kept
 abbrev pub kept_by : (timeout ticks : ℕ) → Option L1Msg → Option Kept
 kept_by timeout ticks None = None
 kept_by timeout ticks (Some message) =
@@ -45,7 +45,7 @@ StandsFor port inputs = port ≡ port_of port.timeout port.interval inputs
 
 -- ---- what each input makes of a port
 
--- a kept message one tick on: with the last of its ticks it is forgotten
+-- a kept message one tick later: with the last of its ticks it is forgotten
 abbrev pub aged : Option Kept → Option Kept
 aged None = None
 aged (Some kept) = if kept.left == 1 then None else Some (record kept { left = kept.left - 1 })
@@ -57,7 +57,7 @@ abbrev pub heard_by : PortAt → L1Msg → PortAt
 heard_by port message =
     if port.enabled then record port { kept = kept_by port.timeout 0 (Some message) } else port
 
--- the ticks since the last sending, this tick included: 0 where the port sends
+-- the ticks since the last sending, this tick included: 0 if the port sends
 abbrev pub next_turn : PortAt → ℕ
 next_turn port = (port.turn + 1) % port.interval
 

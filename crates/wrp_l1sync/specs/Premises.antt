@@ -8,7 +8,7 @@ use Rattle.wrp_l1sync.specs.declared.event.Side.{Side}
 use Rattle.wrp_l1sync.specs.Inputs.{is_enabled}
 use Rattle.wrp_l1sync.specs.Pair.{Timed, History, breach_of, handed, inputs_of, last_of, other, sent_at, side_of}
 
--- at this time no tick of an end is late: where it is enabled, at most dmax passed since its last tick or enabling
+-- at this time no tick of an end is late: if it is enabled, at most dmax passed since its last tick or enabling
 abbrev pub IsInTime : Limits → ℕ → List Timed → Type 0
 IsInTime limits time timed = is_enabled (inputs_of timed) ≡ true → time ≤ last_of timed + limits.dmax
 
@@ -25,7 +25,7 @@ Keeps limits h (Pass dt) = (side : Side) → IsInTime limits (h.time + unsigned_
 Keeps limits h (Deliver number k) = WasSent limits h (side_of number) k
 Keeps limits h _ = Unit {0}
 
--- it breaks none exactly where it keeps them
+-- it breaks none if and only if it keeps them
 abbrev pub EventsAreTakenExactly : Type 0
 EventsAreTakenExactly =
     (limits : Limits) (h : History) (event : L1Event) → (breach_of limits h event ≡ None) ↔ Keeps limits h event

@@ -49,7 +49,7 @@ pub enum L1Event {
 /// Why an event was refused: nothing changes then.
 #[derive(Debug, Drop, Error)]
 pub enum L1Refused {
-    /// The event breaks a premise; the least one is told.
+    /// The event breaks a premise; the least one is reported.
     #[error("premise {premise} is broken: {shown} against {bound}")]
     Broken {
         /// 1 TickLate: the time would pass more than `dmax` beyond the last tick or enabling of an
@@ -61,7 +61,7 @@ pub enum L1Refused {
         /// `dmax`; the last number that was given; or `life`.
         bound: Tau,
     },
-    /// There was no memory.
+    /// Memory ran out.
     #[error("out of memory")]
     Memory(AllocError),
 }

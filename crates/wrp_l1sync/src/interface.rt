@@ -4,8 +4,8 @@ use crate::L1Msg;
 /// What happens at one end of a link.
 #[derive(Clone, Copy, Debug, PartialEq, Eq)]
 pub enum L1In {
-    /// The end is enabled. It begins without a message of its peer, at tick count 0; where it was
-    /// enabled nothing changes.
+    /// The end is enabled. It begins without a message of its peer, at tick count 0; if it was enabled,
+    /// nothing changes.
     Enable,
     /// The end is disabled. Its tick count stays.
     Disable,
@@ -38,6 +38,6 @@ pub enum L1State {
 pub struct L1Out {
     /// The message that is sent, if one is.
     pub send: Option<L1Msg>,
-    /// The new state: Some exactly where it differs from the one before.
+    /// The new state: Some if and only if it differs from the one before.
     pub moved: Option<L1State>,
 }

@@ -14,8 +14,8 @@ pub struct Kept {
     pub left: Timer,
 }
 
-/// A kept message one tick on: with the last of its ticks it is forgotten. None where none was
-/// kept, and where its last tick has passed.
+/// A kept message one tick later: with the last of its ticks it is forgotten. None if none was kept, or
+/// if its last tick has passed.
 pub fn age(kept: Option<Kept>) -> Option<Kept>
     ensures { result ≡ aged kept }
 {

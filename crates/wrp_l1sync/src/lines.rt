@@ -107,7 +107,7 @@ impl Machine for L1Lines {
 
 /// Runs the command `l1sync` over all octets of a source. The first line is
 /// `param,TIMEOUT,INTERVAL,DMAX,LIFE`, and each later one `pass,DT`, `tick,END`, `enable,END`,
-/// `disable,END`, `own,END,REQ,IS` or `deliver,END,K`, where END is `a` or `b`. Written are
+/// `disable,END`, `own,END,REQ,IS` or `deliver,END,K`; END is `a` or `b`. It writes
 /// `END TICK send K REQ IS` and `END TICK STATE`.
 pub fn l1sync<S: Source, K: Sink>(alloc: Global, source: &mut S, sink: &mut K) -> Status
     ensures passes { PassesAll (of_lines meaning) (passage S.left S.faults source.old source.new)

@@ -14,7 +14,7 @@ pub struct L1Msg {
     pub is: u8,
 }
 
-/// What the value of an L1_SYNC TLV says; None exactly where it has fewer than 2 octets. Bits 3 to 7
+/// What the value of an L1_SYNC TLV says; None if and only if it has fewer than 2 octets. Bits 3 to 7
 /// and further octets are ignored.
 pub fn l1_of(value: &[u8]) -> Option<L1Msg>
     ensures { result ≡ read_of value.now }

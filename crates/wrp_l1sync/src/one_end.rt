@@ -87,8 +87,8 @@ impl End {
         }
     }
 
-    /// The premise that is broken where the time becomes `time`, in tau since the start. None
-    /// exactly where none is: the end is off, or its last tick is at most `dmax` ago.
+    /// The premise that is broken if the time becomes `time`, in tau since the start. None if and only
+    /// if none is broken: the end is off, or its last tick is at most `dmax` ago.
     pub fn late(&self, time: u128, dmax: u64) -> Option<Breach>
         requires { time < 2 ^ 127 }
         ensures { result ≡ late_by dmax time self.now.port.enabled self.now.last }

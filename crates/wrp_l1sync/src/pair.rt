@@ -38,7 +38,7 @@ impl Model for L1Pair {
 }
 
 impl L1Pair {
-    /// Two disabled ends, without a message. `timeout` and `interval` are those of both ends, in
+    /// Two disabled ends, without a message. Both ends have this `timeout` and this `interval`, in
     /// ticks: 1 to `10^6`. An enabled end ticks at most `dmax` after its last tick or enabling: 1 or
     /// more; a message is on its way for at most `life`: 0 or more; both in tau.
     pub fn new(alloc: Global, timeout: u32, interval: u32, dmax: i64, life: i64) -> L1Pair
@@ -72,11 +72,11 @@ impl L1Pair {
         }
     }
 
-    /// Takes one event, and answers what the end sends and its new state, where it is of one end.
+    /// Takes one event, and answers what the end sends and its new state, if the event is of one end.
     /// Fewer than `2^32 - 1` events were accepted before.
     ///
-    /// Broken exactly where the event breaks one of the three premises, the least; Memory where there
-    /// was none for a message that is sent.
+    /// Broken if and only if the event breaks one of the three premises, with the least that it breaks;
+    /// Memory if there was no memory for a message that is sent.
     pub fn step(&mut self, e: &L1Event) -> Result<L1Out, L1Refused>
         requires fit { IsFit e.now }
         requires count { self.old.count < 2 ^ 32 - 1 }
@@ -302,7 +302,7 @@ impl L1Pair {
         }
     }
 
-    // The end that would be late after so much time, a first.
+    // The end that would be late after this much time, a first.
     fn late(&self, dt: u64) -> Option<Breach>
         ensures { result
             ≡ option_or

@@ -168,7 +168,7 @@ impl L1Port {
         (self.turn + 1) % self.interval
     }
 
-    /// The message that the next tick makes the port send. None where it sends none.
+    /// The message that the next tick makes the port send. None if it sends none.
     pub fn due(&self) -> Option<L1Msg>
         ensures { result ≡ due_by self.now }
     {
@@ -213,7 +213,7 @@ fn meets(required: u8, holding: u8) -> bool
     required & holding == required
 }
 
-// The second of two states, where it differs from the first.
+// The second of two states, if it differs from the first.
 fn moved(from: L1State, to: L1State) -> Option<L1State>
     ensures { result ≡ change_of from to }
 {

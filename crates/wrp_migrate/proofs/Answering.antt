@@ -1,4 +1,4 @@
--- What is written of what is due for an input, and what then stands.
+-- How much of what is expected for an input is written, and what is then left.
 use Rattle.std.proofs.Common.{◌≡◌, inl, inr, true, false, ℕ, ◌+◌, ◌<◌, Bool, Option, List, [], ◌++◌, length, take, refl, sym, ap, ◌∙◌, subst, append-nil, length-append, arith}
 use Rattle.std.proofs.KnownBytes.{Appends-nil}
 use Rattle.std.specs.Io.KnownBytes.{Appends}
@@ -10,17 +10,17 @@ use Rattle.wrp_records.specs.Refusals.{too_large_line}
 use Rattle.wrp_records.specs.declared.status.Status.{Status}
 use Rattle.wrp_records.specs.declared.status.Status.TheVariants.{Done, BadNetwork, ReadFault, WriteFault, TooLarge, OutOfMemory}
 
--- what is written, and what then stands
+-- what is written, and what is then left
 abbrev pub Wrote : List ℕ → Bool → Status → Option (List ℕ) → Option (List ℕ) → Type 0
 Wrote taken ended given before now = (octets : List ℕ) × Appends before now octets × After migration taken ended [] given octets
 
--- where the input ended, it does not go on
+-- if the input ended, it does not go on
 due_ended : (input : List ℕ) (status : Status) (text : List ℕ) → IsAnswer input status text → IsDue migration input true [] status text
 due_ended input status text is more goes =
     let all : input ++ more ≡ input = ap (λ l. input ++ l) (goes refl) ∙ append-nil input in
     (refl, subst (λ (l : List ℕ). IsAnswer l status text) (sym all) is)
 
--- all that is due is written
+-- all that is expected is written
 stands : (input : List ℕ) (status : Status) (text : List ℕ) → IsAnswer input status text → After migration input true [] status text
 stands input Done text is = (refl, (refl, is))
 stands input BadNetwork text is = due_ended input BadNetwork text is
@@ -37,7 +37,7 @@ finished taken ended due given before now text after is (inr cut) = (
   subst (λ s. After migration taken ended [] s (take cut.1.0 text)) (sym cut.0) (text, cut.1.0, refl, inl (due, is)),
 )
 
--- without memory nothing is written
+-- if memory runs out nothing is written
 pub wrote_nothing : (taken : List ℕ) (ended : Bool) (given : Status) (before now : Option (List ℕ)) → IsShort given before now → Wrote taken ended given before now
 wrote_nothing taken ended given before now is = (
   [],
@@ -57,12 +57,12 @@ due_large taken long more goes =
     let size : length (taken ++ more) ≡ length taken + length more = length-append taken more in
     (refl, (omega (arith, size, long), refl))
 
--- and the line is written that says so
+-- and the line that says so is written
 pub wrote_large : (taken : List ℕ) (given : Status) (before now : Option (List ℕ)) → 262_144 < length taken → Finishes TooLarge given before now too_large_line
     → Wrote taken false given before now
 wrote_large taken given before now long is = finished taken false TooLarge given before now too_large_line (due_large taken long) (due_large taken long) is
 
--- no failed read is told at the end of the input
+-- no failed read is reported at the end of the input
 pub never_read : (input : List ℕ) (given : Status) (before now : Option (List ℕ)) → GivesAnswer input given before now → given ≡ ReadFault → ⊥
 never_read input given before now (inl is) e = let other : OutOfMemory ≡ ReadFault = sym is.0 ∙ e in cc other
 never_read input given before now (inr (due, text, is, inl whole)) e = subst (λ s. IsAnswer input s text) (sym whole.0 ∙ e) is

@@ -100,7 +100,7 @@ still_there k l d (member m e ms) other found =
       | inr (inr more) ↦ rw more (kept_there k l m d e ms (without l ms) (still_there k l d ms other) found)
     ]
 
--- some keys with what stands at them
+-- some keys with their values
 abbrev Entries : Type 0
 Entries = List (List ℕ × Data)
 
@@ -145,7 +145,7 @@ entries_le (e ∷ es) t apart holds =
 abbrev most : ℕ
 most = 9_223_372_036_854_775_807
 
--- this number from 0 on stands there
+-- the value is this number, from 0 on
 record IsNumber (n : ℕ) (found : Option Data) : Type 0 where
   is : found ≡ Some (integer (pos n))
   small : n ≤ most
@@ -180,7 +180,7 @@ passing test is None fits = absurd (false≢true (sym is.none ∙ fits))
 passing test is (Some (pos n)) fits = (n, refl, is.small n fits)
 passing test is (Some (negsuc n)) fits = absurd (false≢true (sym (is.negative n) ∙ fits))
 
--- what is read where it is there
+-- what is read if it is there
 fitting_number_at : (test : Option ℤ → Bool) → IsSmallTest test → (d : Data) → test (as_integer d) ≡ true
     → IsNumber (unsigned_abs (unwrap_or (if test (as_integer d) then as_integer d else None) (pos 0))) (Some d)
 fitting_number_at test is d fits =
@@ -681,7 +681,7 @@ lists_light doc fibres modules (inr (elements, is, light)) (inr (others, are, al
     let heavy = entries_le ((codes "fibre", array elements) ∷ (codes "module", array others) ∷ []) doc refl (is, (are, tt)) in
     inr (omega (arith, light, also, heavy))
 
--- the text of the database of an accepted table: 35 octets, where nothing is listed, or by the weight
+-- the text of the database of an accepted table: 35 octets if nothing is listed, or by the weight
 pub document_light : (others : Others) (doc : Members) → IsAccepted others doc
     → (document_octets (database_of doc) ≤ 35) ⊎ (80 * document_octets (database_of doc) ≤ 97 * members_weight doc + 94)
 document_light others doc accepted =

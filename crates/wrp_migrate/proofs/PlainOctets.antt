@@ -1,4 +1,4 @@
--- What `toml` writes for a table is of octets below 128, where its names and keys are.
+-- What `toml` writes for a table is of octets below 128 if its names and keys are.
 use Rattle.std.proofs.Common.{inl, inr, suc, ◌<◌, ◌/◌, ◌%◌, ◌^◌, ◌==◌, ◌||◌, ◌&&◌, lit<, ℕ, ℤ, pos, negsuc, Bool, true, false, if◌then◌else◌, List, [], ◌∷◌, ◌++◌, codes, nat_lt, not, length, sym, subst, arith, FitsSigned}
 use Rattle.std.proofs.ByRecursion.{IsAscii-from_all, All-from_ascii}
 use Rattle.std.proofs.lemmas.Bool.{cases_Bool}

@@ -129,7 +129,7 @@ lines_length started (e ∷ es) text h is =
     let parts = length-append is.0 is.1 in
     omega (arith, own, more, same, parts)
 
--- lines whose texts have at most so many octets
+-- lines whose texts have at most this many octets
 record AreWithin (most : ℕ) (es : List Expression) : Type 0 where
   counted : LinesCounted es
   octets : lines_octets es ≤ most
@@ -398,7 +398,7 @@ read_short (Some name) = short_if name (is_name name) refl
 abbrev pub document_octets : Database → ℕ
 document_octets db = (12 + fibres_part db.fibres) + modules_part db.modules
 
--- the text of a database whose names are plain has at most so many octets
+-- the text of a database whose names are plain has at most this many octets
 pub printed_le : (db : Database) (text : List ℕ) → HaveShortFibres db.fibres → HaveShortNames db.modules → IsTextDue db text → length text ≤ document_octets db
 printed_le db text short names due =
     let lines = document_within db.fibres db.modules short names in

@@ -1,4 +1,4 @@
--- How large the text is that `migrate` writes.
+-- How large the text that `migrate` writes is.
 use Rattle.std.proofs.Common.{◌≤◌, ℕ, List, length, codes, refl, subst, inl, inr, arith}
 use Rattle.wrp_caldb.specs.Calibration.{version_of}
 use Rattle.wrp_caldb.specs.Database.{fibre_of, module_of, database_of}

@@ -59,7 +59,7 @@ fault_once input n m s t (inr one) (inl other) = absurd (no_text input one.0 one
 fault_once input n m s t (inr one) (inr other) =
     table_once other.0 n m s t (subst (λ doc. IsFaultOf Refused doc n s) (text_once input one.0 other.0 one.1 other.1) one.2) other.2
 
--- one status and one text are due
+-- one status and one text are expected
 one_answer : (input : List ℕ) (a b : Status) (t u : List ℕ) → IsAnswer input a t → IsAnswer input b u → (a ≡ b) × (t ≡ u)
 one_answer input Done Done t u x y =
     let db = one_database input x.1.db y.1.db x.1.read y.1.read in

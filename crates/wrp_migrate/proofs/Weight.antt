@@ -1,4 +1,4 @@
--- The weight of a table: a text of it has at least half so many octets, but for one. The weight counts each octet that the
+-- The weight of a table: a text of it has at least half as many octets, less one. The weight counts each octet that the
 -- text cannot do without twice: keys, `=`, quotes, brackets and what ends a value; of a number half its digits.
 use Rattle.std.specs.Prelude.{◌+◌, ◌*◌, ℕ, List, length}
 use Rattle.std.specs.Fmt.{signed_decimal}

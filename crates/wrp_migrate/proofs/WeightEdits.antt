@@ -42,7 +42,7 @@ insert_weight k x (node l y ns) none =
       | inr (inr more) ↦ let on = insert_weight k x ns (rw more at none) in rw more (omega (arith, on))
     ]
 
--- a node weighs at most so much more than another, whatever its key is
+-- a node weighs at most this much more than another, whatever its key is
 abbrev IsHeavier : ℕ → Node → Node → Type 0
 IsHeavier more x y = (k : List ℕ) → node_weight k y ≤ node_weight k x + more
 
@@ -63,7 +63,7 @@ replace_weight k x y more (node l z ns) h found =
 
 -- ---- edits
 
--- an edit adds at most so much
+-- an edit adds at most this much
 abbrev pub Adds : ℕ → Edit → Type 0
 Adds more edit = (ns new : Nodes) → edit ns ≡ Some new → nodes_weight new ≤ nodes_weight ns + more
 
@@ -131,7 +131,7 @@ dots_add [] more edit adds = adds
 dots_add (k ∷ path) more edit adds = λ ns new e.
     by_dot_adds k more (along_dots path edit) ns new (get_node k ns) (dots_add path more edit adds) refl e
 
--- ---- what stands on a line
+-- ---- what is on a line
 
 -- a header of an array of tables has its key and the brackets of an array with a table
 abbrev pub definition_weight : List ℕ → Definition → ℕ

@@ -1,4 +1,4 @@
--- How many digits a number has that a text writes.
+-- How many digits a number that a text writes has.
 use Rattle.std.proofs.Common.{◌≡◌, ◌≤◌, ◌<◌, ◌+◌, ◌-◌, ◌*◌, ◌^◌, ◌==◌, ◌&&◌, ◌||◌, not, cond, ℕ, ℤ, pos, neg_ℤ, zero, suc, true, false, Bool, List, [], ◌∷◌, ◌++◌, length, take, drop, filter, Option, Some, None, option_map, nat_lt, codes, bytes_eq, refl, sym, ap, ◌∙◌, subst, inl, inr, arith}
 use Rattle.std.proofs.lemmas.Bool.{cases_Bool, and_parts}
 use Rattle.std.proofs.lemmas.Bool.Decides.{nat_tests}
@@ -21,12 +21,12 @@ use Rattle.toml_parser.specs.declared.scalar.Scalar.{Scalar}
 use Rattle.toml_parser.specs.declared.scalar.Scalar.TheVariants.{Boolean, Integer, Float, Datetime}
 use Rattle.wrp_migrate.proofs.WeightStrings.{byte_there, mapped, parts_length}
 
--- the digits of an integer are fewer than twice the octets that write it; of another scalar nothing is said
+-- the digits of an integer are fewer than twice the octets that write it; nothing is said of another scalar
 abbrev pub IsShort : ℕ → Scalar → Type 0
 IsShort octets (Integer z) = length (signed_decimal z) + 1 ≤ 2 * octets
 IsShort octets _ = Unit {0}
 
--- so it is of what was read
+-- the same holds of what was read
 abbrev Short : ℕ → Option Scalar → Type 0
 Short octets o = (s : Scalar) → o ≡ Some s → IsShort octets s
 
@@ -214,7 +214,7 @@ word_short word =
     short_if (length word) (looks_like_datetime word) _ (number word)
     (λ is. mapped_short (length word) Datetime _ (λ d. tt)) (λ is. number_short word)))
 
--- a scalar that stands in front of a text
+-- a scalar that a text begins with
 pub unquoted_short : (text : List ℕ) (s : Scalar) (rest : List ℕ) → unquoted text ≡ Some (s, rest)
     → (octets : ℕ) × (octets + length rest ≡ length text) × IsShort octets s
 unfolding unquoted

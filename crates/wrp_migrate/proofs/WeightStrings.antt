@@ -186,7 +186,7 @@ plain_there : (delim : ℕ) (multi : Bool) (text : List ℕ) → is_plain delim 
 plain_there delim multi [] h = let none : is_plain delim multi 0 ≡ false = grind (arith, nat_tests) in absurd cc
 plain_there delim multi (c ∷ cs) h = omega arith
 
--- what comes after a piece, where so it is of the pieces that follow
+-- what comes after a piece, if the same holds of the pieces that follow
 after_fits : (more : List ℕ → Read (List ℕ)) → ((next t left : List ℕ) → more next ≡ Some (t, left) → (length t + 1) + length left ≤ length next)
     → (piece : Option (List ℕ)) (next text s rest : List ℕ) → PieceFits piece next text → after_piece more piece next ≡ Some (s, rest)
     → (length s + 1) + length rest ≤ length text

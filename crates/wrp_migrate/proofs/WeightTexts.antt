@@ -18,7 +18,7 @@ use Rattle.wrp_migrate.proofs.WeightEdits.{define_adds, line_weight, nodes_weigh
 use Rattle.wrp_migrate.proofs.WeightIntegers.{IsShort, unquoted_short}
 use Rattle.wrp_migrate.proofs.WeightStrings.{byte_there, chained, drop_le, key_fits, mapped, quoted_fits, skip_from_le, skip_ws_le}
 
--- ---- what stands between values
+-- ---- what is between values
 
 after_byte_fits : (byte : ℕ) (text rest : List ℕ) → 0 < byte → after_byte byte text ≡ Some rest → length rest + 1 ≡ length text
 after_byte_fits byte text rest some e =
@@ -30,7 +30,7 @@ after_byte_fits byte text rest some e =
       | inr other ↦ absurd (none-some rest (rw other at e))
     ]
 
--- the octet that ends an array or an inline table, where it comes next
+-- the octet that ends an array or an inline table, if it comes next
 abbrev end_weight : ℕ → List ℕ → ℕ
 end_weight closing text = if_next (first (skip_blank text) == closing)
   where
@@ -289,7 +289,7 @@ no_line : (cs : List ℕ) → line (13 ∷ cs) ≡ None
 unfolding line expression key_equals key_after simple_key
 no_line cs = refl
 
--- between two lines an octet stands
+-- between two lines there is an octet
 line_break : (rest : List ℕ) (e : Expression × List ℕ) → ends_line (skip_ws rest) ≡ true → (length (skip_blank rest) == 0) ≡ false
     → line (skip_blank rest) ≡ Some e → length (skip_blank rest) + 1 ≤ length rest
 unfolding skip_from
@@ -330,7 +330,7 @@ next_line (suc n) doc text last is some =
     let found = chained (λ e. option_and_then (λ next. lines n next e.1) (define doc e.0)) (line (skip_blank text)) last (rw some at is) in
     (found.0, found.1)
 
--- what is left behind the lines so far, and the end of its last line
+-- what is left after the lines so far, and the end of its last line
 abbrev rest_weight : List ℕ → ℕ
 rest_weight start = cond (length start == 0) 0 (2 * length start + 2)
 

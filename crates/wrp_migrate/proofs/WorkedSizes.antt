@@ -21,7 +21,7 @@ use Rattle.wrp_migrate.specs.WorkedSizes.{WorkedSizes, empty_text, one_module, o
 use Rattle.wrp_migrate.proofs.PlainNames.{all_low}
 use Rattle.wrp_migrate.proofs.PlainOctets.{AreLow}
 
--- ---- lines one behind another
+-- ---- lines one after another
 
 abbrev AreLines : Bool → List Expression → List (List ℕ) → Type 0
 AreLines started [] [] = Unit {0}

@@ -10,8 +10,8 @@ use Rattle.wrp_records.specs.Engine.{Finishes}
 use Rattle.wrp_records.specs.declared.status.Status.{Status}
 use Rattle.wrp_records.specs.declared.status.Status.TheVariants.{Done, OutOfMemory}
 
--- what was taken where the taking ends so: at the end of the input all of it, behind a failed read no more
--- than a text may have
+-- what was taken if the taking ends so: at the end of the input all of it, after a failed read no more than a text may
+-- have
 abbrev pub TextTaken : HowItEnded → Option (List ℕ) → List ℕ → List ℕ → Type 0
 TextTaken Whole left given text = IsAtEnd left × (text ≡ given) × IsWithin given
 TextTaken TooLong left given text = 262_144 < length given
@@ -27,7 +27,7 @@ abbrev pub GivesText : Database → Status → Option (List ℕ) → Option (Lis
 GivesText db given before now = IsShort given before now
     ⊎ ((text : List ℕ) × IsTextDue db text × Finishes Done given before now text)
 
--- what is due for an input is written, or as much of it as the sink took
+-- what is expected for an input is written, or as much of it as the sink took
 abbrev pub GivesAnswer : List ℕ → Status → Option (List ℕ) → Option (List ℕ) → Type 0
 GivesAnswer input given before now = IsShort given before now
     ⊎ ((due : Status) × (text : List ℕ) × IsAnswer input due text × Finishes due given before now text)

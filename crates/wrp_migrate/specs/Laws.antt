@@ -16,7 +16,7 @@ pub record FindsSame (db back : Database) : Type 0 where
   pub tables : (name : List ℕ) → table_at back name ≡ table_at db name
   pub same : back ≡ db
 
--- an answer of the reader that is a database with the same in it, or want of memory
+-- an answer of the reader that is a database with the same in it, or says that memory ran out
 abbrev pub IsKept : Database → Result Database ConfFault → Type 0
 IsKept db (Ok back) = FindsSame db back
 IsKept db (Err (Fault code place)) = ⊥

@@ -8,7 +8,7 @@ use Rattle.wrp_records.specs.Refusals.{bad_network_line, too_large_line}
 use Rattle.wrp_records.specs.declared.status.Status.{Status}
 use Rattle.wrp_records.specs.declared.status.Status.TheVariants.{Done, BadNetwork, TooLarge}
 
--- a calibration text has at most so many octets
+-- a calibration text has at most this many octets
 abbrev pub IsWithin : List ℕ → Type 0
 IsWithin input = length input ≤ 262_144
 
@@ -25,15 +25,15 @@ pub record IsRefused (input text : List ℕ) : Type 0 where
   pub fault : IsFaultIn input code place
   pub line : text ≡ bad_network_line code place
 
--- the status that is due for an input, and what is written
+-- the status that is expected for an input, and what is written
 abbrev pub IsAnswer : List ℕ → Status → List ℕ → Type 0
 IsAnswer input Done text = IsWithin input × IsMigrated input text
 IsAnswer input BadNetwork text = IsWithin input × IsRefused input text
 IsAnswer input TooLarge text = (262_144 < length input) × (text ≡ too_large_line)
 IsAnswer input _ text = ⊥
 
--- no call is made; before the end of the input, and where the source failed, nothing is written; a text
--- that a failed read cuts is judged for its size alone
+-- no call is made; before the end of the input, and if the source failed, nothing is written; a text that a failed
+-- read cuts is judged for its size alone
 abbrev pub migration : Meaning
 migration = record {
   answers = λ input calls status text. (calls ≡ []) × IsAnswer input status text;

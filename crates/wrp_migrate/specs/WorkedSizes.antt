@@ -4,7 +4,7 @@ use Rattle.wrp_migrate.specs.Migration.{migration}
 use Rattle.wrp_migrate.specs.Sizes.{most_octets}
 use Rattle.wrp_records.specs.declared.status.Status.TheVariants.{Done}
 
--- where nothing is listed
+-- a text in which nothing is listed
 abbrev pub empty_text : List ℕ
 empty_text = codes "fibre = []\nmodule = []\nversion = 2\n"
 

@@ -21,7 +21,7 @@ pub enum HowItEnded {
     TooLong,
     /// The source failed.
     Failed,
-    /// There was no memory.
+    /// Memory ran out.
     Memory,
 }
 

@@ -1,4 +1,4 @@
-//! Laws of migration, for the layers that stand on it. Each function computes nothing.
+//! Laws of migration, for the layers that use it. Each function computes nothing.
 ghost use Rattle.wrp_migrate.specs.Laws.{EachHasMigration, MigrationKeeps, OneMigration};
 ghost use Rattle.wrp_migrate.specs.Sizes.{MigrationSize, SmallTextsFit};
 ghost use Rattle.wrp_migrate.specs.WorkedSizes.{WorkedSizes};
@@ -14,7 +14,7 @@ pub fn each_has_migration()
     ensures { EachHasMigration }
 {}
 
-/// An input has no two answers.
+/// An input has at most one answer.
 pub fn one_migration()
     ensures { OneMigration }
 {}

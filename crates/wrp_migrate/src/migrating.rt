@@ -1,4 +1,4 @@
-//! The command: its input is judged whole, and only then anything is written.
+//! The command: its input is judged whole, and only then is anything written.
 ghost use Rattle.std.specs.Prelude.{◌≡◌, ◌≤◌, length};
 ghost use Rattle.wrp_io.specs.Faults.{Rose};
 ghost use Rattle.wrp_migrate.specs.Input.{GivesText, GivesAnswer};
@@ -37,11 +37,11 @@ fn answer_text<K: Sink>(alloc: Global, sink: &mut K, input: &[u8]) -> Status
     }
 }
 
-/// Takes a calibration text of version 1 or 2 from a source, up to 262,144 octets, and writes the text of
-/// version 2 of the same database, as `toml` prints it. Nothing is written before the whole input was
-/// judged, and all memory is there before the first octet is written. A text that is refused, and one
-/// that is too long, is answered with the line that names it; behind a source that failed, and without
-/// memory, nothing is written.
+/// Takes a calibration text of version 1 or 2 from a source, up to 262,144 octets, and writes the text
+/// of version 2 of the same database, as `toml` prints it. Nothing is written before the whole input
+/// was judged, and all memory is there before the first octet is written. A text that is refused, and
+/// one that is too long, is answered with the line that names it; after a source failed, or if memory
+/// runs out, nothing is written.
 pub fn migrate<S: Source, K: Sink>(alloc: Global, source: &mut S, sink: &mut K) -> Status
     ensures passes { PassesAll migration
         (passage S.left S.faults source.old source.new)

@@ -1,4 +1,4 @@
--- The octets of a capture up to a place behind its whole packets.
+-- The octets of a capture up to a place after its whole packets.
 use Rattle.std.proofs.Common.{◌≡◌, ◌≤◌, ◌+◌, ℕ, List, [], ◌∷◌, ◌++◌, length, take, drop, inl, inr, refl, sym, ap, ◌∙◌, subst, arith, append_assoc, length-append}
 use Rattle.std.proofs.Math.Seq.{drop-append_seam}
 use Rattle.std.proofs.lemmas.List.{take-append-drop, length-take}
@@ -21,7 +21,7 @@ pub record Front (order : Order) (packets : List StoredPacket) (rest later octet
   pub all : octets ≡ front ++ later
   pub begins : Begins order packets rest front
 
--- without the last of the octets behind the packets these stand in front of the others
+-- without the last octets after the packets, the octets still begin with these packets
 pub begins_before : (order : Order) (packets : List StoredPacket) (rest later octets : List ℕ) → Begins order packets (rest ++ later) octets
     → Front order packets rest later octets
 begins_before order [] rest later octets is = record { front = rest; all = is; begins = refl }
@@ -47,7 +47,7 @@ begins_before order (packet ∷ packets) rest later octets (whole, is, begins) =
       begins = (whole_front, first, subst (λ (o : List ℕ). Begins order packets rest o) (sym behind_is) behind.begins);
     }
 
--- a header without the octets behind it
+-- a header without the octets after it
 pub header_before : (order : Order) (octets later : List ℕ) → 24 ≤ length octets → HasHeader order (octets ++ later) → HasHeader order octets
 header_before order octets later enough header = record {
   whole = enough;

@@ -1,4 +1,4 @@
--- What is told where the inspection of a capture ends, and what comes next of the octets that are held.
+-- What is reported when the inspection of a capture ends, and what comes next in the octets that are held.
 use Rattle.std.proofs.Common.{◌≡◌, ◌⊎◌, ◌<◌, ◌+◌, ◌^◌, ℕ, Bool, true, false, List, [], ◌∷◌, ◌++◌, length, Result, inl, inr, refl, sym, ap, ◌∙◌, subst, arith, append-nil}
 use Rattle.std.specs.Prelude.{codes, OnOk}
 use Rattle.std.specs.Fmt.{decimal}
@@ -39,7 +39,7 @@ pub cut_not_whole : (order : Order) (octets : List ℕ) → IsCut order octets �
 cut_not_whole order octets (inl few) whole = let numbers = whole.numbers in omega arith
 cut_not_whole order octets (inr (short, cut)) whole = let own = whole.own in omega arith
 
--- ---- what is told
+-- ---- what is reported
 
 pub refusal_named : {T E : Type 0} (result : Result T E) (was now : List ℕ) (packet number : ℕ) (name : List ℕ) (fault : CaptureFault)
     → number ≡ number_of fault → name ≡ name_of fault
@@ -49,7 +49,7 @@ refusal_named result was now packet number name fault number_is name_is appended
     subst (λ (n : ℕ). OnOk result (now ≡ was ++ line_of (codes "bad-capture" ∷ decimal packet ∷ decimal n ∷ name_of fault ∷ []))) number_is
     (subst (λ (m : List ℕ). OnOk result (now ≡ was ++ line_of (codes "bad-capture" ∷ decimal packet ∷ decimal number ∷ m ∷ []))) name_is appended)
 
--- nothing is told where there was no memory
+-- nothing is reported if memory ran out
 pub none_told : (order : Order) (contents : List Content) (rest was now : List ℕ) (ended : Bool) (status : Status) → status ≡ OutOfMemory → now ≡ was
     → TellsBehind order contents rest ended status was now
 none_told order contents rest was now ended status is same =

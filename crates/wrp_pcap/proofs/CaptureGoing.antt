@@ -1,4 +1,4 @@
--- The steps of the inspection of a capture: a packet more, a piece more, and what waited is written.
+-- The steps of the inspection of a capture: one more packet, one more piece, and what waited is written.
 use Rattle.std.proofs.Common.{◌≡◌, ◌<◌, ◌≤◌, ◌+◌, ◌^◌, ℕ, List, [], ◌∷◌, ◌++◌, length, map, drop, reverse, inl, inr, refl, sym, ap, ◌∙◌, subst, arith, append_assoc, append-nil, length-append, length-drop}
 use Rattle.std.specs.Prelude.{slice_range, Option}
 use Rattle.std.specs.Io.KnownBytes.{Appends, Consumes}
@@ -54,13 +54,13 @@ near_behind order rest near whole =
     let left = length-drop (16 + captured order rest) rest in
     near_within order (behind_first order rest) (omega (arith, most, left))
 
--- where the numbers of a packet were cut
+-- if the numbers of a packet were cut
 near_few : (order : Order) (rest given : List ℕ) → length rest < 16 → length given ≤ piece_limit → IsNear order (rest ++ given)
 near_few order rest given few piece =
     let all = length-append rest given in
     record { whole = λ whole. omega (arith, few, piece, all); long = λ long. omega (arith, few, piece, all) }
 
--- where a packet was cut behind them
+-- if a packet was cut after its numbers
 near_cut : (order : Order) (rest given : List ℕ) → 16 ≤ length rest → captured order rest ≤ 262_144 → length rest < 16 + captured order rest
     → length given ≤ piece_limit → IsNear order (rest ++ given)
 near_cut order rest given enough short cut piece =
@@ -77,7 +77,7 @@ near_refilled order rest given (inr cut) piece = elim (cases_lt (length rest) 16
 
 -- ---- steps
 
--- behind the header
+-- after the header
 pub reached_first : (order : Order) (start rest waiting : List ℕ) (inspection : Inspection) → IsBehindHeader order start rest → HasTaken inspection [] → waiting ≡ []
     → Reached order (start ++ []) [] inspection rest waiting
 reached_first order start rest waiting inspection behind has none =
@@ -94,7 +94,7 @@ reached_first order start rest waiting inspection behind has none =
       waits = sym none;
     })
 
--- behind one packet more
+-- after one more packet
 pub reached_more : (order : Order) (taken out rest octets waiting now : List ℕ) (old new : Inspection) → IsWhole order rest
     → octets ≡ (first_packet order rest).octets → packets_taken old + 1 < 2 ^ 32 → Took octets old new waiting now
     → Reached order taken out old rest waiting → Reached order taken out new (behind_first order rest) now
@@ -116,7 +116,7 @@ reached_more order taken out rest octets waiting now old new whole same room too
       waits = ap (λ l. l ++ lines) reached.waits ∙ append_assoc out waiting lines ∙ ap (λ l. out ++ l) (sym (took.written reached.contents reached.has));
     }
 
--- a piece more
+-- one more piece
 pub reached_refilled : (order : Order) (taken out rest given waiting : List ℕ) (inspection : Inspection) → IsCut order rest → length given ≤ piece_limit
     → Reached order taken out inspection rest waiting → Reached order (taken ++ given) out inspection (rest ++ given) waiting
 reached_refilled order taken out rest given waiting inspection cut piece reached = record {
@@ -168,7 +168,7 @@ goes_first order start rest waiting left held inspection behind has none = recor
   reached = reached_first order start rest waiting inspection behind has none;
 }
 
--- packets more
+-- more packets
 pub goes_on : (order : Order) (start rest behind waiting now : List ℕ) (left left_now held held_now : Option (List ℕ)) (old new : Inspection)
     → ((taken out : List ℕ) → Reached order taken out old rest waiting → Reached order taken out new behind now)
     → Goes order start left left_now held held_now old rest waiting → Goes order start left left_now held held_now new behind now
@@ -192,7 +192,7 @@ goes_written order start rest waiting text now left left_now held held_now held_
   reached = reached_written order (start ++ goes.given) goes.out rest waiting now inspection none goes.reached;
 }
 
--- a piece more
+-- one more piece
 pub goes_refilled : (order : Order) (start rest more waiting : List ℕ) (left left_now further held held_now : Option (List ℕ)) (inspection : Inspection)
     → Goes order start left left_now held held_now inspection rest waiting → IsCut order rest → Refills left_now further rest more Piece
     → Goes order start left further held held_now inspection more waiting
@@ -219,12 +219,12 @@ goes_ended order start rest same waiting left left_now further held held_now ins
       (subst (λ (g : List ℕ). Reached order (start ++ g) goes.out inspection rest waiting) (sym (append-nil goes.given)) goes.reached);
 }
 
--- the octets of a header, where no more came
+-- the octets of a header, if no more came
 pub filled : (before middle now : Option (List ℕ)) (held same : List ℕ) → Consumes before middle held → Consumes middle now [] → same ≡ held → Consumes before now same
 filled before middle now held same taken nothing is =
     subst (λ (h : List ℕ). Consumes before now h) (append-nil held ∙ sym is) (Consumes-trans before middle now held [] taken nothing)
 
--- the same, where some came for which there was no memory
+-- the same, if some came for which there was no memory
 pub filled_all : (before middle now : Option (List ℕ)) (held given : List ℕ) → Consumes before middle held → Consumes middle now given
     → (all : List ℕ) × Consumes before now all
 filled_all before middle now held given taken more = (held ++ given, Consumes-trans before middle now held given taken more)

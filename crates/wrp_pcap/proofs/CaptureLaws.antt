@@ -13,7 +13,7 @@ use Rattle.wrp_pcap.specs.Capture.{order_by, order_of, number_at, captured, Stor
 use Rattle.wrp_pcap.specs.CaptureReading.{header_by, header_of, is_whole, first_packets, left_behind, fault_left, packets_behind, packets_of, refusal_at, refusal_behind, refusal_of, FilesHaveOneReading, stored, CapturesAreTheirPackets, StayWhateverComes, ReadingsGoOn}
 use Rattle.wrp_pcap.proofs.CaptureExact.{read_once}
 
--- what is said of both ways is said of an if
+-- what holds of both branches of an if holds of the if
 either : {A : Type 0} → (P : A → Type 0) (b : Bool) (x y : A) → (b ≡ true → P x) → (b ≡ false → P y) → P (if b then x else y)
 either P true x y one other = one refl
 either P false x y one other = other refl
@@ -49,7 +49,7 @@ none_left : (octets : List ℕ) → length octets ≡ 0 → octets ≡ []
 none_left [] is = refl
 none_left (octet ∷ octets) is = absurd (omega (arith, is))
 
--- where no whole packet stands, the end is the one that is told
+-- if the rest does not begin with a whole packet, the end is the one that is reported
 end_is : (order : Order) (rest : List ℕ) → (IsWhole order rest → ⊥) → IsEnd order (fault_left order rest) rest
 end_is order rest none =
     let long = nat_lt 262_144 (captured order rest) in
@@ -67,7 +67,7 @@ end_is order rest none =
     (λ is. (numbers, ltb-true 262_144 (captured order rest) is))
     (λ is. let short = ltb-false 262_144 (captured order rest) is in (numbers, short, cut numbers short))))
 
--- the first packets stand in front
+-- the octets begin with the first packets
 begin_by : (n : ℕ) (order : Order) (octets : List ℕ) (b : Bool) → is_whole order octets ≡ b
     → Begins order (first_packets n order (behind_first order octets)) (left_behind n order (behind_first order octets)) (behind_first order octets)
     → Begins order (if b then first_packet order octets ∷ first_packets n order (behind_first order octets) else [])
@@ -80,7 +80,7 @@ first_begin zero order octets = refl
 first_begin (suc n) order octets =
     begin_by n order octets (is_whole order octets) refl (first_begin n order (behind_first order octets))
 
--- behind as many as there are octets no whole packet stands
+-- after as many packets as there are octets, no whole packet follows
 left_by : (n : ℕ) (order : Order) (octets : List ℕ) → length octets ≤ suc n → (b : Bool) → is_whole order octets ≡ b
     → (length (behind_first order octets) ≤ n → IsWhole order (left_behind n order (behind_first order octets)) → ⊥)
     → IsWhole order (if b then left_behind n order (behind_first order octets) else octets) → ⊥
@@ -138,7 +138,7 @@ one_reading octets =
           (agree.packets_are, agree.refusals_are);
     }
 
--- the octets of a whole packet, and those behind it
+-- the octets of a whole packet, and the octets after it
 split_first : (order : Order) (octets : List ℕ) → octets ≡ (first_packet order octets).numbers ++ ((first_packet order octets).octets ++ behind_first order octets)
 split_first order octets =
     let n = captured order octets in

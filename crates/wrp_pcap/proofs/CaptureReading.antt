@@ -1,4 +1,4 @@
--- The packets of a capture: its octets determine them, the end behind them, and the fault there.
+-- The packets of a capture: its octets determine them, the end after them, and the fault there.
 use Rattle.std.proofs.Common.{◌≡◌, ◌≤◌, ℕ, List, [], ◌∷◌, ◌++◌, length, Option, Some, None, refl, sym, ap, ap₂, ◌∙◌, subst, arith}
 use Rattle.wrp_pcap.specs.declared.capture.CaptureFault.{CaptureFault}
 use Rattle.wrp_pcap.specs.declared.capture.CaptureFault.TheVariants.{Magic, LinkType, Header, Packet, Long}
@@ -13,7 +13,7 @@ fault_not_whole order Header octets (some, few) whole = let enough = whole.numbe
 fault_not_whole order Packet octets (enough, short, cut) whole = let own = whole.own in omega arith
 fault_not_whole order Long octets (enough, long) whole = let short = whole.short in omega arith
 
--- nor are none
+-- nor are no octets
 pub end_not_whole : (order : Order) (fault : Option CaptureFault) (rest : List ℕ) → IsEnd order fault rest → IsWhole order rest → ⊥
 end_not_whole order None rest ends whole = let enough = whole.numbers in let none = ap length ends in omega arith
 end_not_whole order (Some fault) rest ends whole = fault_not_whole order fault rest ends whole
@@ -34,7 +34,7 @@ one_fault order Packet Long octets (enough, short, cut) (all, long) = absurd (om
 one_fault order Long Header octets (enough, long) (some, few) = absurd (omega arith)
 one_fault order Long Packet octets (all, long) (enough, short, cut) = absurd (omega arith)
 
--- octets with a fault are some
+-- octets with a fault are not empty
 pub fault_is_some : (order : Order) (fault : CaptureFault) (octets : List ℕ) → HasPacketFault fault order octets → 1 ≤ length octets
 fault_is_some order Magic octets has = absurd has
 fault_is_some order LinkType octets has = absurd has
@@ -66,13 +66,13 @@ ends_are_one order (first ∷ packets) (second ∷ others) one other left rest o
     let on = ends_are_one order packets others one other left rest (behind_first order octets) a x b y in
     record { packets_are = ap₂ (λ p ps. p ∷ ps) (is ∙ sym same) on.packets_are; faults_are = on.faults_are }
 
--- the octets behind a header have one reading
+-- the octets after a header have one reading
 pub readings_are_one : (order : Order) (packets others : List StoredPacket) (one other : Option CaptureFault) (octets : List ℕ)
     → HasReading order packets one octets → HasReading order others other octets → AreOne packets others one other
 readings_are_one order packets others one other octets a b =
     ends_are_one order packets others one other a.rest b.rest octets a.begins a.ends b.begins b.ends
 
--- one more whole packet behind those that stand in front
+-- one more whole packet after those at the front
 pub begins_on : (order : Order) (packets : List StoredPacket) (rest octets : List ℕ) → Begins order packets rest octets → IsWhole order rest
     → Begins order (packets ++ (first_packet order rest ∷ [])) (behind_first order rest) octets
 begins_on order [] rest octets is whole =

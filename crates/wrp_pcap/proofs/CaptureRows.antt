@@ -11,7 +11,7 @@ use Rattle.wrp_pcap.specs.CaptureRows.{worked_header, worked_numbers, worked_pac
 low : HasHeader Little worked_header
 low = record { whole = omega arith; magic = refl; link_type = refl }
 
--- octets behind the header that are refused at once
+-- octets after the header that are refused at once
 refused : (fault : CaptureFault) (behind : List ℕ) → HasPacketFault fault Little behind → IsFirstRefused fault (worked_header ++ behind)
 refused fault behind has =
     inr (
@@ -61,7 +61,7 @@ longest octets all =
       };
     }
 
--- an EtherType stands at place 12, or behind it
+-- an EtherType is at place 12, or after it
 least_place : (b : Bool) → 12 ≤ (if b then 16 else 12)
 least_place true = omega arith
 least_place false = omega arith

@@ -1,4 +1,4 @@
--- What stands where the inspection of a capture ends.
+-- What is left when the inspection of a capture ends.
 use Rattle.std.proofs.Common.{◌≡◌, ◌⊎◌, ◌<◌, ◌≤◌, ◌+◌, ◌^◌, ℕ, Bool, true, false, Option, List, [], ◌++◌, length, take, drop, inl, inr, refl, sym, ap, ◌∙◌, subst, arith, append_assoc, append-nil, length-append, length-drop}
 use Rattle.std.specs.Io.KnownBytes.{Appends, Consumes, IsAtEnd}
 use Rattle.wrp_io.specs.Faults.{Rose}
@@ -29,7 +29,7 @@ use Rattle.wrp_pcap.proofs.CaptureLaws.{stay, number_stays, header_fault_stays}
 
 -- ---- however the input goes on
 
--- nothing comes behind the end
+-- nothing comes after the end
 nothing_more : (octets more : List ℕ) → GoesOn true more → octets ++ more ≡ octets
 nothing_more octets more goes = ap (λ m. octets ++ m) (goes refl) ∙ append-nil octets
 
@@ -134,7 +134,7 @@ ends_at order taken out rest waiting inspection reached fault has room other = r
   });
 }
 
--- behind the numbers of a packet that is too long
+-- after the numbers of a packet that is too long
 long_at : (order : Order) (taken out rest waiting : List ℕ) (inspection : Inspection) → (reached : Reached order taken out inspection rest waiting)
     → HasPacketFault Long order rest → length reached.contents + 1 < 2 ^ 32 → StopsNear capture BadCapture taken
 long_at order taken out rest waiting inspection reached long room =
@@ -179,9 +179,9 @@ stops_near order taken out rest waiting inspection reached Header has room = end
 stops_near order taken out rest waiting inspection reached Packet has room = ends_at order taken out rest waiting inspection reached Packet has room (λ is. cc)
 stops_near order taken out rest waiting inspection reached Long has room = long_at order taken out rest waiting inspection reached has room
 
--- ---- what stands
+-- ---- what is left
 
--- what is due, or the lines of the first packets
+-- what is expected, or the lines of the first packets
 abbrev pub PartDue : List ℕ → Bool → List ℕ → Type 0
 PartDue taken ended due = ((status : Status) × IsDue capture taken ended [] status due) ⊎ IsFirst capture taken ended [] due
 
@@ -189,7 +189,7 @@ first_due : (order : Order) (taken out rest waiting : List ℕ) (inspection : In
     → IsFirst capture taken ended [] (text_of reached.contents)
 first_due order taken out rest waiting inspection ended reached more goes = (refl, first_answer order taken out rest waiting more inspection reached)
 
--- where all is told
+-- if all is reported
 told_after : (order : Order) (taken out rest waiting last : List ℕ) (inspection : Inspection) (ended : Bool) (status : Status)
     → (reached : Reached order taken out inspection rest waiting) → Tells order reached.contents rest ended status last
     → After capture taken ended [] status (text_of reached.contents ++ last)
@@ -227,7 +227,7 @@ told_after order taken out rest waiting last inspection ended OutOfMemory reache
     )
 told_after order taken out rest waiting last inspection ended _ reached never = absurd never
 
--- where a part of it may stand
+-- if a part of it may be left
 told_part : (order : Order) (taken out rest waiting last : List ℕ) (inspection : Inspection) (ended : Bool) (status : Status)
     → (reached : Reached order taken out inspection rest waiting) → Tells order reached.contents rest ended status last
     → PartDue taken ended (text_of reached.contents ++ last)
@@ -248,7 +248,7 @@ told_part order taken out rest waiting last inspection ended OutOfMemory reached
     inr (told_after order taken out rest waiting last inspection ended OutOfMemory reached told)
 told_part order taken out rest waiting last inspection ended _ reached never = absurd never
 
--- what was taken behind these octets and written, and what stands by it
+-- what was taken after these octets and written, and what is left by it
 pub record Stands (start : List ℕ) (left left_now held held_now : Option (List ℕ)) (ended : Bool) (status : Status) : Type 0 where
   pub given : List ℕ
   pub octets : List ℕ
@@ -256,7 +256,7 @@ pub record Stands (start : List ℕ) (left left_now held held_now : Option (List
   pub wrote : Appends held held_now octets
   pub stands : After capture (start ++ given) ended [] status octets
 
--- where what is told is written, or a part of it
+-- if what is reported is written, or a part of it
 pub finished : (order : Order) (start rest waiting text : List ℕ) (left left_now held held_now held_then : Option (List ℕ)) (inspection : Inspection)
     (ended : Bool) (due status : Status) → (goes : Goes order start left left_now held held_now inspection rest waiting)
     → TellsBehind order goes.reached.contents rest ended due waiting text → Finishes due status held_now held_then text
@@ -292,7 +292,7 @@ finished order start rest waiting text left left_now held held_now held_then ins
       );
     }
 
--- where a part of what waited is written
+-- if a part of what waited is written
 pub unwritten : (order : Order) (start rest waiting : List ℕ) (left left_now held held_now held_then : Option (List ℕ)) (inspection : Inspection)
     → Goes order start left left_now held held_now inspection rest waiting → AppendsPart held_now held_then waiting
     → Stands start left left_now held held_then false WriteFault
@@ -312,12 +312,12 @@ unwritten order start rest waiting left left_now held held_now held_then inspect
       );
     }
 
--- what is written where nothing waits
+-- what is written if nothing waits
 all_written : (order : Order) (taken out rest waiting : List ℕ) (inspection : Inspection) (reached : Reached order taken out inspection rest waiting)
     → waiting ≡ [] → text_of reached.contents ≡ out
 all_written order taken out rest waiting inspection reached none = reached.waits ∙ ap (λ l. out ++ l) none ∙ append-nil out
 
--- where the source failed
+-- if the source failed
 pub unread : (order : Order) (start rest waiting : List ℕ) (left left_now further held held_now : Option (List ℕ)) (inspection : Inspection)
     → (goes : Goes order start left left_now held held_now inspection rest waiting) → waiting ≡ [] → Consumes left_now further []
     → IsCut order rest → (0 < length rest → length goes.reached.contents + 1 < 2 ^ 32)
@@ -349,7 +349,7 @@ unread order start rest waiting left left_now further held held_now inspection g
       );
     }
 
--- where there was no memory for a piece
+-- if there was no memory for a piece
 pub no_memory : (order : Order) (start rest waiting given : List ℕ) (left left_now further held held_now : Option (List ℕ)) (inspection : Inspection)
     → Goes order start left left_now held held_now inspection rest waiting → waiting ≡ [] → Consumes left_now further given
     → Stands start left further held held_now false OutOfMemory
@@ -388,7 +388,7 @@ fails_last fault status p middle same rose kept = record {
   sound = λ other. kept other ∙ same;
 }
 
--- what is told is no fault of the source
+-- what is reported is no fault of the source
 pub never_read : (order : Order) (contents : List Content) (rest was now text : List ℕ) (ended : Bool) (due status : Status) (held held_now : Option (List ℕ))
     → TellsBehind order contents rest ended due was now → Finishes due status held held_now text → status ≡ ReadFault → ⊥
 never_read order contents rest was now text ended due status held held_now (last, tells, is) (inl (same, written)) read =
@@ -453,7 +453,7 @@ header_near held fault has piece = elim (cases_lt (length held) 24) [
       }
 ]
 
--- what stands where a header is refused
+-- what is left if a header is refused
 pub header_stands : (held : List ℕ) (ended : Bool) (fault : CaptureFault) (status : Status) (before now : Option (List ℕ)) → HasHeaderFault fault held
     → length held ≤ 24 + piece_limit → (24 ≤ length held) ⊎ (ended ≡ true) → TellsHeader fault status before now
     → (octets : List ℕ) × Appends before now octets × After capture held ended [] status octets
@@ -475,7 +475,7 @@ header_never_read fault status before now (inl (full, nothing)) read = let never
 header_never_read fault status before now (inr (inl (bad, written))) read = let never = sym bad ∙ read in cc
 header_never_read fault status before now (inr (inr (cut, part))) read = let never = sym cut ∙ read in cc
 
--- behind octets that were taken before
+-- after octets that were taken before
 pub passes_behind : (source middle sink : Passage (List ℕ)) (held : List ℕ) (ended : Bool) (status : Status) → Passes capture middle sink held false ended [] status
     → Consumes source.before middle.before held → middle.now ≡ source.now → middle.faults ≡ source.faults → middle.faults_now ≡ source.faults_now
     → Passes capture source sink [] false ended [] status

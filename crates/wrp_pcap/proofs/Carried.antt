@@ -29,7 +29,7 @@ carried_fault packet frame read carries exact fault = (
   λ has. ap Some ((exact fault).1 (subst (λ f. IsFirstFault fault f) (one_frame packet has.frame frame has.carries carries) has.first)),
 )
 
--- no frame is carried where none is answered
+-- no frame is carried if none is answered
 pub none_carried : (packet : List ℕ) → ((frame : List ℕ) → (None ≡ Some frame) ↔ Carries packet frame) → CarriesNone packet
 none_carried packet none frame carries = let is = (none frame).1 carries in cc
 

@@ -87,7 +87,8 @@ chain_stepped master slave newest before above =
       slave_calibrated = seven i;
     }
 
--- a White Rabbit message, as its master's where it goes from the master to the slave, and as its slave's where it goes back
+-- a White Rabbit message, taken as its master's if it goes from the master to the slave, and as its slave's if it goes
+-- back
 abbrev heard_by : WrMsg → (forth back : Bool) → ℕ → Trail → Trail
 heard_by message forth back n chain =
     let after = if forth then after_master message n chain else chain in
@@ -135,7 +136,7 @@ stepped_by master slave source n (Signal target (Some message)) chain =
     stepped_is message (goes source target master slave) (goes source target slave master) n chain
 stepped_by master slave source n _ chain = refl
 
--- looking back over one message more
+-- looking back over one more message
 pub chain_after : (master slave : PortIdentity) (newest : Captured) (before : List Captured) → IsAbove newest.number before →
     trail_of master slave (newest ∷ before)
     ≡ kept_at newest.message.head.source newest.number master slave newest.message.body (trail_of master slave before)

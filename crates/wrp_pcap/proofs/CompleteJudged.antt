@@ -1,4 +1,4 @@
--- Each `complete` that is told is judged.
+-- Each verdict `complete` is judged.
 use Rattle.std.proofs.Common.{◌≡◌, ◌+◌, ℕ, List, [], ◌∷◌, ◌++◌, length, Some, sym, ap, ◌∙◌, arith, length-append}
 use Rattle.wrp_base.specs.declared.message.Body.{Body}
 use Rattle.wrp_base.specs.declared.message.Body.TheVariants.{Signal}
@@ -34,7 +34,7 @@ told_eight master slave number before (finds found) numbers seven e =
     ap length (sym (complete_only (first_above (is_sent is_present slave master) (lock_of found) before) (found ++ number ∷ []) numbers e))
     ∙ length-append found (number ∷ []) ∙ ap (λ n. n + 1) seven
 
--- what is told of a body is told of a WR_MODE_ON
+-- the verdict on a body is the verdict on a WR_MODE_ON
 told_certificate : (source : PortIdentity) (number : ℕ) (before : List Captured) (body : Body) (numbers : List ℕ)
     → verdict_on source number before body ≡ Some (Complete numbers)
     → (target : PortIdentity) × (certificate source target number before ≡ Complete numbers)

@@ -56,7 +56,7 @@ found (step ∷ steps) (newest ∷ before) =
       | false ↦ λ is. further step steps newest before (look_back (step ∷ steps) before) is (found (step ∷ steps) before)
     ] refl
 
--- ---- the first SLAVE_PRESENT behind the LOCK
+-- ---- the first SLAVE_PRESENT after the LOCK
 
 -- what the search for it finds
 record IsFirst (test : Captured → Bool) (number : ℕ) (captured : List Captured) (first : ℕ) : Type 0 where
@@ -77,7 +77,7 @@ not_above : (b : Bool) (number n : ℕ) → (b && nat_lt number n) ≡ false →
 not_above true number n e is = ltb-false number n e
 not_above false number n e is = absurd cc
 
--- with one message more, at which the test holds above the number or not
+-- with one more message, at which the test holds above the number or not
 searched_more : (test : Captured → Bool) (number : ℕ) (newest : Captured) (before : List Captured) (first : Option ℕ) (b : Bool) →
     (test newest && nat_lt number newest.number) ≡ b → IsSearched test number before first →
     IsSearched test number (newest ∷ before) (option_or first (if b then Some newest.number else None))

@@ -1,4 +1,4 @@
--- For each input that is inspected an answer is due.
+-- For each input that is inspected an answer is expected.
 use Rattle.std.proofs.Common.{◌≡◌, inl, inr, refl, ap, ℕ, zero, suc, ◌+◌, ◌-◌, ◌^◌, ◌≤◌, ◌==◌, List, [], ◌∷◌, ◌++◌, length, map, drop, reverse, Option, None, Some, Result, Ok, Err, arith}
 use Rattle.std.proofs.lemmas.Bool.{cases_Bool, cases_lt, eqb-false, eqb-true}
 use Rattle.wrp_base.specs.declared.message.PtpMsg.{PtpMsg}
@@ -58,7 +58,7 @@ all_carried (packet ∷ packets) =
 carry : (packets : List StoredPacket) → (contents : List Content) × Carry packets contents
 carry packets = all_carried (reverse (map (λ packet. packet.octets) packets))
 
--- The first so many packets
+-- The first n packets
 
 record SplitAt (order : Order) (n : ℕ) (packets : List StoredPacket) (rest octets : List ℕ) : Type 0 where
   front : List StoredPacket
@@ -86,7 +86,7 @@ split_at order (suc n) (packet ∷ packets) rest octets enough begins =
       all = omega (arith, all);
     }
 
--- something stands behind them
+-- something follows them
 left_some : (order : Order) (back : List StoredPacket) (rest middle : List ℕ) → Begins order back rest middle → (length back ≡ 0 → 1 ≤ length rest) → 1 ≤ length middle
 left_some order [] rest middle begins some = let more = some refl in omega (arith, more, ap length begins)
 left_some order (packet ∷ packets) rest middle begins some = let numbers = begins.0.numbers in omega (arith, numbers)

@@ -1,4 +1,4 @@
--- What an inspection shows: each verdict is the one that is due, and each `complete` names a handshake of the capture.
+-- What an inspection shows: each verdict is the expected one, and each `complete` names a handshake of the capture.
 use Rattle.std.proofs.Common.{◌≡◌, ◌+◌, true, ℕ, Some, List, ◌∷◌, ◌++◌, length, inl, inr, refl, subst}
 use Rattle.std.proofs.lemmas.Option.{same_Some}
 use Rattle.std.specs.Prelude.{IsSome}
@@ -24,7 +24,7 @@ use Rattle.wrp_pcap.proofs.CompleteJudged.{complete_is_judged}
 use Rattle.wrp_pcap.proofs.Due.{certificate_is_due}
 use Rattle.wrp_pcap.proofs.Handshakes.{complete_names_handshake, is_sent_on}
 
--- a verdict is told of a WR_MODE_ON alone
+-- only a WR_MODE_ON has a verdict
 told_mode_on : (source : PortIdentity) (number : ℕ) (before : List Captured) (body : Body) (verdict : Verdict8)
     → verdict_on source number before body ≡ Some verdict
     → (target : PortIdentity) × (body ≡ Signal target (Some WR_MODE_ON)) × (certificate source target number before ≡ verdict)
@@ -50,7 +50,7 @@ is_due (Message message) before verdict e =
 is_due Other before verdict e = absurd cc
 is_due (Fault fault) before verdict e = absurd cc
 
--- a WR_MODE_ON is told of
+-- a WR_MODE_ON has a verdict
 told_on : (source target : PortIdentity) (number : ℕ) (before : List Captured) (body : Body)
     → carries source is_mode_on source target body ≡ true → IsSome (verdict_on source number before body)
 told_on source target number before (Signal to (Some WR_MODE_ON)) is = refl

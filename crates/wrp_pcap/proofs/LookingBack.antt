@@ -11,7 +11,7 @@ use Rattle.wrp_pcap.specs.Chain.{kept, present_of, behind_of, behind_at, followe
 
 -- ---- what looking back finds
 
--- so many numbers are found
+-- this many numbers are found, if none is missing
 abbrev pub HasCount : ℕ → Back → Type 0
 HasCount count (lacks place) = Unit {0}
 HasCount count (finds numbers) = length numbers ≡ count
@@ -122,7 +122,7 @@ behind_next present newest before count (finds numbers) many long other =
     (ap (λ lock. first_above present lock (newest ∷ before)) (get_or_append_left numbers (newest.number ∷ []) 0 1 (omega (arith, many, long)))
     ∙ first_above-other present (lock_of numbers) newest before other)
 
--- what is kept at a message of the handshake behind the LOCK
+-- what is kept at a message of the handshake after the LOCK
 pub behind_after : (present step : Captured → Bool) (steps : List (Captured → Bool)) (newest : Captured) (before : List Captured) →
     1 < length steps → IsAbove newest.number before → (step newest ≡ true → present newest ≡ false) →
     behind_at present (step ∷ steps) (newest ∷ before)

@@ -1,4 +1,4 @@
--- Of an input one status and one text are due.
+-- For an input one status and one text are expected.
 use Rattle.std.proofs.Common.{◌≡◌, ◌<◌, ◌+◌, ◌^◌, ℕ, List, [], ◌∷◌, ◌++◌, length, map, drop, reverse, Option, None, Some, inl, inr, refl, sym, ap, ap₂, ◌∙◌, subst, arith}
 use Rattle.std.proofs.lemmas.Bool.{cases_lt}
 use Rattle.wrp_io.specs.declared.link.LinkCall.{LinkCall}
@@ -21,7 +21,7 @@ same_contents packets others ones other_ones same a b =
     one_contents (reverse (map (λ packet. packet.octets) packets)) ones other_ones a
     (subst (λ (ps : List StoredPacket). Carry ps other_ones) (sym same) b)
 
--- where no whole packet stands behind some packets, no more packets stand in front
+-- if no whole packet follows some packets, the octets do not begin with more packets
 no_more : (order : Order) (packets others : List StoredPacket) (end rest octets : List ℕ) → Begins order packets end octets → (IsWhole order end → ⊥)
     → Begins order others rest octets → length packets < length others → ⊥
 no_more order [] [] end rest octets a none b fewer = omega (arith, fewer)
@@ -30,7 +30,7 @@ no_more order (packet ∷ packets) [] end rest octets a none b fewer = omega (ar
 no_more order (packet ∷ packets) (other ∷ others) end rest octets a none b fewer =
     no_more order packets others end rest (behind_first order octets) a.2 none b.2 (omega (arith, fewer))
 
--- where as many packets stand in front, the same is left
+-- if the octets begin with as many packets, the same is left
 same_left : (order : Order) (packets others : List StoredPacket) (end rest octets : List ℕ) → Begins order packets end octets → Begins order others rest octets
     → length packets ≡ length others → (packets ≡ others) × (end ≡ rest)
 same_left order [] [] end rest octets a b same = (refl, sym a ∙ b)
@@ -126,7 +126,7 @@ one_due octets a LinkFault text other due never = absurd never
 one_due octets a OutOfMemory text other due never = absurd never
 one_due octets a BadCalib text other due never = absurd never
 
--- of an input one status and one text are due
+-- for an input one status and one text are expected
 pub one_answer : (octets : List ℕ) (calls : List LinkCall) (a b : Status) (text other : List ℕ) → capture.answers octets calls a text → capture.answers octets calls b other
     → (a ≡ b) × (text ≡ other)
 one_answer octets calls a b text other first second = one_due octets a b text other first.1 second.1

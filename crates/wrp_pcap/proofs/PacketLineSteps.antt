@@ -6,7 +6,7 @@ use Rattle.std.proofs.lemmas.List.{take_more, map-append}
 use Rattle.wrp_records.specs.Words.{line_of}
 use Rattle.wrp_pcap.specs.PacketLines.{spaced}
 
--- words behind words
+-- words after words
 pub spaced-append : (words more : List (List ℕ)) → spaced (words ++ more) ≡ spaced words ++ spaced more
 spaced-append [] more = refl
 spaced-append (word ∷ words) more =
@@ -18,7 +18,7 @@ line_spaced word [] = refl
 line_spaced word (next ∷ words) =
     ap (λ l. word ++ 32 ∷ l) (line_spaced next words) ∙ ap (λ l. word ++ 32 ∷ l) (sym (append_assoc next (spaced words) (10 ∷ [])))
 
--- one number more
+-- one more number
 pub numbers_more : (numbers : List ℕ) (at : ℕ) (start was now : List ℕ) → at < length numbers → was ≡ start ++ spaced (map decimal (take at numbers))
     → now ≡ was ++ 32 ∷ decimal (get_or numbers at 0) → now ≡ start ++ spaced (map decimal (take (at + 1) numbers))
 numbers_more numbers at start was now within so_far more =

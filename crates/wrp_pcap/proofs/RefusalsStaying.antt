@@ -1,4 +1,4 @@
--- What is due where a refusal stands is due however the input goes on.
+-- What is expected for a refusal stays expected however the input goes on.
 use Rattle.std.proofs.Common.{◌≡◌, ◌≤◌, ℕ, List, ◌++◌, length, Some, inl, inr, sym, subst, arith, length-append}
 use Rattle.wrp_pcap.specs.declared.capture.CaptureFault.{CaptureFault}
 use Rattle.wrp_pcap.specs.declared.capture.CaptureFault.TheVariants.{Long}

@@ -1,4 +1,4 @@
--- A table that stands for its messages: what it tells of one more, and what it stands for then.
+-- A table that stands for its messages: its verdict on one more, and what it stands for then.
 use Rattle.std.proofs.Common.{◌≡◌, refl, sym, ap, ◌∙◌, ℕ, List, [], ◌∷◌, ◌++◌, length, reverse, Some, arith}
 use Rattle.wrp_base.specs.declared.message.Body.{Body}
 use Rattle.wrp_base.specs.declared.message.Body.TheVariants.{Signal}
@@ -29,13 +29,13 @@ verdict_is pairs before master slave n stands =
     ap (λ chain. verdict_behind n chain.slave_calibrated) (stands.chains master slave)
     ∙ verdict_kept master slave n before (look_back (to_slave_calibrated master slave) before) (count_is (to_slave_calibrated master slave) before)
 
--- what is told is the verdict that is due
+-- the verdict is the expected one
 pub told_is : (pairs : Pairs) (before : List Captured) (source : PortIdentity) (n : ℕ) (body : Body) → StandsFor pairs before →
     told_at pairs n source body ≡ verdict_on source n before body
 told_is pairs before source n (Signal target (Some WR_MODE_ON)) stands = ap Some (verdict_is pairs before source target n stands)
 told_is pairs before source n _ stands = refl
 
--- one message more
+-- one more message
 pub stands_for_more : (old new : Pairs) (before : List Captured) (newest : Captured) →
     Kept newest.number newest.message.head.source newest.message.body old new → StandsFor old before → IsAbove newest.number before →
     StandsFor new (newest ∷ before)

@@ -26,7 +26,7 @@ port_same a b is =
     let port : a.port ≡ b.port = eqb-true a.port b.port (and_second (a.clock == b.clock) (a.port == b.port) is) in
     λ i. record { clock = clock i; port = port i }
 
--- a chain is one where its pair is
+-- two chains are one if their pairs are
 chain_same : (pairs : Pairs) (master slave m s : PortIdentity) → goes master slave m s ≡ true → trail_at pairs master slave ≡ trail_at pairs m s
 chain_same pairs master slave m s is =
     ap₂ (trail_at pairs) (port_same master m (and_first (same_port master m) (same_port slave s) is))
@@ -74,7 +74,7 @@ pub none_at : (master slave : PortIdentity) (at : Key) (pairs : Pairs) → at �
 none_at master slave at pairs is none =
     none_if (tree.get key_cmp pairs.chains (key master slave)) (subst (λ (k : Key). is_some (tree.get key_cmp pairs.chains k) ≡ false) is none)
 
--- the chain of no messages, put where there is none
+-- the chain of no messages, put in if there is none
 same_if : (b : Bool) (x y : Trail) → (b ≡ true → x ≡ y) → (if b then x else y) ≡ y
 same_if true x y h = h refl
 same_if false x y h = refl
@@ -87,7 +87,7 @@ pub room_at : (master slave : PortIdentity) (at : Key) (pairs : Pairs) → at �
     IsSome (tree.get key_cmp pairs.chains at)
 room_at master slave at pairs is room = subst (λ (k : Key). IsSome (tree.get key_cmp pairs.chains k)) (sym is) room
 
--- a chain that is shown where the table has none
+-- a chain that is shown if the table has none
 pub shown_empty : (master slave : PortIdentity) (chain : Trail) (pairs : Pairs) →
     tree.get key_cmp pairs.chains (key master slave) ≡ None → chain ≡ trail_of master slave [] → chain ≡ trail_at pairs master slave
 shown_empty master slave chain pairs none empty = empty ∙ sym (ap (λ o. unwrap_or o (trail_of master slave [])) none)

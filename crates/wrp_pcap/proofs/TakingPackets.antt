@@ -1,4 +1,4 @@
--- An inspection that stands for its packets: what it tells of one more, and what it stands for then.
+-- An inspection that represents its packets: its verdict on one more, and what it represents then.
 use Rattle.std.proofs.Common.{◌≡◌, ◌+◌, ◌-◌, ◌<◌, ◌≤◌, ◌^◌, ℕ, Bool, true, false, min, if◌then◌else◌, List, [], ◌∷◌, ◌++◌, length, Option, sym, ap, ◌∙◌, subst, arith}
 use Rattle.std.specs.List.{count_by}
 use Rattle.std.proofs.lemmas.List.Sums.{count_by-le-length, sum_by-cons}
@@ -16,7 +16,7 @@ use Rattle.wrp_pcap.specs.PacketLines.{told_of, lines_with, packet_lines, is_mes
 use Rattle.wrp_pcap.specs.StandsFor.{StandsFor, told_at}
 use Rattle.wrp_pcap.proofs.Standing.{told_is, stands_for_more}
 
--- what is told of a message
+-- the verdict on a message
 pub told_message : (inspection : Inspection) (before : List Content) (number : ℕ) (content : Content) (message : PtpMsg) (told : Option Verdict8)
     → HasTaken inspection before → told ≡ told_at inspection.pairs number message.head.source message.body → content ≡ Message message
     → told ≡ told_of number (messages_of before) content
@@ -31,7 +31,7 @@ more_if : (b : Bool) (count total with : ℕ) → count ≡ total → total < 2 
 more_if true count total with is few more = omega (arith, is, few, more)
 more_if false count total with is few more = omega (arith, is, more)
 
--- one packet more is counted
+-- one more packet is counted
 count_more : (test : Content → Bool) (before : List Content) (content : Content) (count with : ℕ) → count ≡ count_by test before
     → length before < 2 ^ 32 - 1 → with ≡ (if test content then min (count + 1) (2 ^ 32 - 1) else count) → with ≡ count_by test (content ∷ before)
 count_more test before content count with is few more =
@@ -42,7 +42,7 @@ at_most_one : (b : Bool) → (if b then 1 else 0) ≤ 1
 at_most_one true = omega arith
 at_most_one false = omega arith
 
--- of no more packets than there are the verdict is told
+-- no more packets have the verdict `complete` than there are packets
 complete_few : (contents : List Content) → complete_count contents ≤ length contents
 complete_few [] = omega arith
 complete_few (newest ∷ before) =
@@ -50,7 +50,7 @@ complete_few (newest ∷ before) =
     let few = complete_few before in
     omega arith
 
--- counts with one packet more
+-- counts with one more packet
 pub counted : (counts with : Counts) (before : List Content) (content : Content) (told : Option Verdict8)
     → counts.packets + 1 < 2 ^ 32 → AreCounts counts before → told ≡ told_of (length before + 1) (messages_of before) content
     → with.packets ≡ counts.packets + 1
@@ -80,13 +80,13 @@ above_onto (Message message) at number captured below above = (below, above)
 above_onto Other at number captured below above = above
 above_onto (Fault fault) at number captured below above = above
 
--- the numbers of messages are those of their packets
+-- the numbers of messages are the numbers of their packets
 pub number_above : (before : List Content) (number : ℕ) → length before < number → IsAbove number (messages_of before)
 number_above [] number below = tt
 number_above (newest ∷ before) number below =
     above_onto newest (length before + 1) number (messages_of before) (omega (arith, below)) (number_above before number (omega (arith, below)))
 
--- one packet more is kept
+-- one more packet is kept
 kept_more : (old new : Pairs) (before : List Content) (content : Content) → KeepsContent (length before + 1) content old new
     → StandsFor old (messages_of before) → StandsFor new (messages_of (content ∷ before))
 kept_more old new before (Message message) keeps stands =
@@ -102,12 +102,12 @@ taken_more old pairs counts number before content number_is taken keeps are =
     let same : number ≡ length before + 1 = number_is ∙ ap (λ n. n + 1) taken.counts.packets in
     (kept_more old.pairs pairs before content (subst (λ n. KeepsContent n content old.pairs pairs) same keeps) taken.stands, are)
 
--- what is told of the next packet
+-- the verdict on the next packet
 pub told_next : (counts : Counts) (before : List Content) (content : Content) (told : Option Verdict8) → AreCounts counts before
     → told ≡ told_of (counts.packets + 1) (messages_of before) content → told ≡ told_of (length before + 1) (messages_of before) content
 told_next counts before content told are is = is ∙ ap (λ n. told_of (n + 1) (messages_of before) content) are.packets
 
--- the lines of the next packet behind a text
+-- the lines of the next packet after a text
 pub written_next : (counts : Counts) (before : List Content) (content : Content) (told : Option Verdict8) (none lines was now : List ℕ)
     → AreCounts counts before → told ≡ told_of (counts.packets + 1) (messages_of before) content
     → none ≡ [] → lines ≡ none ++ lines_with (counts.packets + 1) content told → now ≡ was ++ lines

@@ -1,6 +1,6 @@
--- The classic libpcap file format: a header of 24 octets, and packets that follow one another to the end. The
--- magic that a file begins with sets the order of octets of all its numbers. (That only Ethernet is read, and no
--- packet of more than 262,144 octets, is this project's profile.)
+-- The classic libpcap file format: a header of 24 octets, and packets that follow one another to the end. The magic
+-- that a file begins with sets the order of octets of all its numbers. (That only Ethernet is read, and no packet of
+-- more than 262,144 octets, is this project's profile.)
 use Rattle.std.specs.Prelude.{◌≡◌, ◌≢◌, ◌<◌, ◌≤◌, ◌+◌, ◌⊎◌, ℕ, Bool, true, false, ◌==◌, if◌then◌else◌, List, [], ◌∷◌, length, take, drop, slice_range, Option, Some, None, codes}
 use Rattle.byteorder.specs.Endian.{big_number, little_number}
 use Rattle.wrp_pcap.specs.declared.capture.CaptureFault.{CaptureFault}
@@ -11,9 +11,9 @@ use Rattle.wrp_pcap.specs.declared.capture.Front.TheVariants.{End, Whole, Refuse
 use Rattle.wrp_pcap.specs.declared.capture.Order.{Order}
 use Rattle.wrp_pcap.specs.declared.capture.Order.TheVariants.{Big, Little}
 
--- The order that a file's first four octets stand for, here as one number with the highest octet first. They are
--- the number a1b2c3d4, where a packet's fraction of a second is in microseconds, or a1b23c4d, where it is in
--- nanoseconds, each with its highest octet first or its lowest.
+-- The order that a file's first four octets give, here as one number with the highest octet first. They are the number
+-- a1b2c3d4 if a packet's fraction of a second is in microseconds, or a1b23c4d if it is in nanoseconds, each with its
+-- highest octet first or its lowest.
 abbrev pub order_by : ℕ → Option Order
 order_by n =
     if n == 0xA1B2_C3D4 then Some Big
@@ -26,7 +26,7 @@ order_by n =
 abbrev pub order_of : List ℕ → Option Order
 order_of octets = order_by (big_number 4 octets)
 
--- the number of four octets that stands at a place
+-- the number of the four octets at a place
 abbrev pub number_at : Order → ℕ → List ℕ → ℕ
 number_at Big at octets = big_number 4 (drop at octets)
 number_at Little at octets = little_number 4 (drop at octets)
@@ -67,7 +67,7 @@ name_of Header = codes "Header"
 name_of Packet = codes "Packet"
 name_of Long = codes "Long"
 
--- the captured length, the third of a packet's four numbers: how many octets of it stand behind them
+-- the captured length, the third of a packet's four numbers: how many of its octets follow them
 abbrev pub captured : Order → List ℕ → ℕ
 captured order octets = number_at order 8 octets
 
@@ -76,7 +76,7 @@ pub record StoredPacket : Type 0 where
   pub numbers : List ℕ
   pub octets : List ℕ
 
--- a whole packet stands in front: its four numbers, of which the captured length is at most 262,144, and as many
+-- the octets begin with a whole packet: its four numbers, of which the captured length is at most 262,144, and as many
 -- octets
 pub record IsWhole (order : Order) (octets : List ℕ) : Type 0 where
   pub numbers : 16 ≤ length octets
@@ -90,11 +90,11 @@ first_packet order octets = record {
   octets = slice_range octets 16 (16 + captured order octets);
 }
 
--- the octets behind it
+-- the octets after it
 abbrev pub behind_first : Order → List ℕ → List ℕ
 behind_first order octets = drop (16 + captured order octets) octets
 
--- these whole packets stand one behind another in front, and behind them the rest
+-- the octets begin with these whole packets, one after another, and the rest follows them
 abbrev pub Begins : Order → List StoredPacket → List ℕ → List ℕ → Type 0
 Begins order [] rest octets = octets ≡ rest
 Begins order (packet ∷ packets) rest octets =
@@ -102,8 +102,8 @@ Begins order (packet ∷ packets) rest octets =
     × (packet ≡ first_packet order octets)
     × Begins order packets rest (behind_first order octets)
 
--- the octets that are left, up to the end of the file, have the fault: too few for a packet's numbers, fewer than
--- its captured length, or a captured length that is too long, however many octets are left behind it
+-- the octets that are left, up to the end of the file, have the fault: too few for a packet's numbers, fewer than its
+-- captured length, or a captured length that is too long, however many octets follow it
 abbrev pub HasPacketFault : CaptureFault → Order → List ℕ → Type 0
 HasPacketFault Header order octets = (1 ≤ length octets) × (length octets < 16)
 HasPacketFault Packet order octets =
@@ -113,12 +113,12 @@ HasPacketFault Packet order octets =
 HasPacketFault Long order octets = (16 ≤ length octets) × (262_144 < captured order octets)
 HasPacketFault fault order octets = ⊥
 
--- what is left behind the whole packets: nothing, or octets with the fault
+-- what is left after the whole packets: nothing, or octets with the fault
 abbrev pub IsEnd : Order → Option CaptureFault → List ℕ → Type 0
 IsEnd order None rest = rest ≡ []
 IsEnd order (Some fault) rest = HasPacketFault fault order rest
 
--- the octets behind the header are these packets, up to the end or to the first fault
+-- the octets after the header are these packets, up to the end or to the first fault
 pub record HasReading
     (order : Order) (packets : List StoredPacket) (fault : Option CaptureFault) (octets : List ℕ)
     : Type 0 where
@@ -126,21 +126,21 @@ pub record HasReading
   pub begins : Begins order packets rest octets
   pub ends : IsEnd order fault rest
 
--- the octets are a whole header, and these packets behind it, up to the end or to the first fault
+-- the octets are a whole header followed by these packets, up to the end or to the first fault
 pub record IsFile
     (packets : List StoredPacket) (fault : Option CaptureFault) (octets : List ℕ) : Type 0 where
   pub order : Order
   pub header : HasHeader order octets
   pub reading : HasReading order packets fault (drop 24 octets)
 
--- the octets are refused: at the header, which is packet 0, before any packet; or behind these packets, at the
--- next one, counted from 1
+-- the octets are refused: at the header, which is packet 0, before any packet; or after these packets, at the next
+-- one, counted from 1
 abbrev pub IsRefused : List StoredPacket → Refusal → List ℕ → Type 0
 IsRefused packets refusal octets =
     ((refusal.packet ≡ 0) × (packets ≡ []) × HasHeaderFault refusal.fault octets)
     ⊎ ((refusal.packet ≡ length packets + 1) × IsFile packets (Some refusal.fault) octets)
 
--- the octets are a capture of these packets, or are refused behind them
+-- the octets are a capture of these packets, or are refused after them
 abbrev pub IsReadAs : List StoredPacket → Option Refusal → List ℕ → Type 0
 IsReadAs packets None octets = IsFile packets None octets
 IsReadAs packets (Some refusal) octets = IsRefused packets refusal octets
@@ -151,8 +151,8 @@ IsCut order octets =
     (length octets < 16)
     ⊎ ((captured order octets ≤ 262_144) × (length octets < 16 + captured order octets))
 
--- what stands in front of the octets that are left, where nothing comes behind them (ended) or something may: the
--- end, a whole packet, a fault, or less than a packet. A fault but Long is one only where nothing comes behind.
+-- what the octets that are left begin with, if nothing follows them (ended) or if something may: the end, a whole
+-- packet, a fault, or less than a packet. A fault other than Long is one only if nothing follows.
 abbrev pub IsFront : Order → Bool → List ℕ → Front → Type 0
 IsFront order ended octets End = (ended ≡ true) × (octets ≡ [])
 IsFront order ended octets (Whole n) = IsWhole order octets × (n ≡ captured order octets)

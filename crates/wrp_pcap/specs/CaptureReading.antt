@@ -1,5 +1,5 @@
--- What the octets of a file hold, as functions of them; that they are read in that way and in no other; and what
--- of it stays whatever comes behind them (the classic libpcap file format).
+-- What the octets of a file hold, as functions of them; that they are read in that way and in no other; and what of it
+-- stays, whatever follows them (the classic libpcap file format).
 use Rattle.std.specs.Prelude.{◌≡◌, ◌≤◌, ◌+◌, ◌&&◌, ◌==◌, nat_le, nat_lt, ℕ, zero, suc, Bool, if◌then◌else◌, List, [], ◌∷◌, ◌++◌, length, take, drop, Option, Some, None, Result, Ok, Err}
 use Rattle.wrp_pcap.specs.declared.capture.CaptureFault.{CaptureFault}
 use Rattle.wrp_pcap.specs.declared.capture.CaptureFault.TheVariants.{Magic, LinkType, Header, Packet, Long}
@@ -17,14 +17,14 @@ abbrev pub header_of : List ℕ → Result Order CaptureFault
 header_of octets =
     if nat_lt (length octets) 24 then Err Magic else header_by (order_of octets) octets
 
--- a whole packet stands in front
+-- the octets begin with a whole packet
 abbrev pub is_whole : Order → List ℕ → Bool
 is_whole order octets =
     nat_le 16 (length octets)
     && (nat_le (captured order octets) 262_144
     && nat_le (16 + captured order octets) (length octets))
 
--- the first n of the whole packets that stand one behind another, or all where they are fewer
+-- the first n of the whole packets that follow one another, or all if there are fewer
 abbrev pub first_packets : ℕ → Order → List ℕ → List StoredPacket
 first_packets zero order octets = []
 first_packets (suc n) order octets =
@@ -32,13 +32,13 @@ first_packets (suc n) order octets =
     then first_packet order octets ∷ first_packets n order (behind_first order octets)
     else []
 
--- the octets that are left behind them
+-- the octets that are left after them
 abbrev pub left_behind : ℕ → Order → List ℕ → List ℕ
 left_behind zero order octets = octets
 left_behind (suc n) order octets =
     if is_whole order octets then left_behind n order (behind_first order octets) else octets
 
--- the fault of octets that are left where no whole packet stands in front
+-- the fault of octets that are left and do not begin with a whole packet
 abbrev pub fault_left : Order → List ℕ → Option CaptureFault
 fault_left order octets =
     if length octets == 0 then None
@@ -46,7 +46,7 @@ fault_left order octets =
     else if nat_lt 262_144 (captured order octets) then Some Long
     else Some Packet
 
--- the packets behind a header; there are fewer of them than octets
+-- the packets after a header; there are fewer of them than octets
 abbrev pub packets_behind : Result Order CaptureFault → List ℕ → List StoredPacket
 packets_behind (Err fault) octets = []
 packets_behind (Ok order) octets = first_packets (length octets) order octets
@@ -55,12 +55,12 @@ packets_behind (Ok order) octets = first_packets (length octets) order octets
 abbrev pub packets_of : List ℕ → List StoredPacket
 packets_of octets = packets_behind (header_of octets) (drop 24 octets)
 
--- the refusal behind so many packets
+-- the refusal after this many packets
 abbrev pub refusal_at : ℕ → Option CaptureFault → Option Refusal
 refusal_at count None = None
 refusal_at count (Some fault) = Some (record { packet = count + 1; fault = fault })
 
--- the refusal at a header or behind it
+-- the refusal at a header or after it
 abbrev pub refusal_behind : Result Order CaptureFault → List ℕ → Option Refusal
 refusal_behind (Err fault) octets = Some (record { packet = 0; fault = fault })
 refusal_behind (Ok order) octets =
@@ -82,7 +82,7 @@ pub record HasOneReading (octets : List ℕ) : Type 0 where
 abbrev pub FilesHaveOneReading : Type 0
 FilesHaveOneReading = (octets : List ℕ) → HasOneReading octets
 
--- the octets of packets, one behind another
+-- the octets of packets, one after another
 abbrev pub stored : List StoredPacket → List ℕ
 stored [] = []
 stored (packet ∷ packets) = packet.numbers ++ (packet.octets ++ stored packets)
@@ -93,8 +93,7 @@ CapturesAreTheirPackets =
     (packets : List StoredPacket) (octets : List ℕ) → IsFile packets None octets
     → octets ≡ take 24 octets ++ stored packets
 
--- what stays whatever comes behind the octets: a whole header, or its fault; the whole packets; a packet that is
--- too long
+-- what stays whatever follows the octets: a whole header, or its fault; the whole packets; a packet that is too long
 pub record StayWhateverComes : Type 0 where
   pub header : (order : Order) (octets later : List ℕ)
       → HasHeader order octets → HasHeader order (octets ++ later)
@@ -105,8 +104,8 @@ pub record StayWhateverComes : Type 0 where
   pub long : (order : Order) (octets later : List ℕ)
       → HasPacketFault Long order octets → HasPacketFault Long order (octets ++ later)
 
--- a reading goes on behind the packets that were read: what stands in front of the octets behind them stands behind
--- them in all octets, and what these are read as, all are
+-- a reading goes on after the packets that were read: the packets that the rest begins with follow them in all the
+-- octets, and what the rest is read as follows them in the reading of all the octets
 pub record ReadingsGoOn : Type 0 where
   pub packets : (order : Order) (packets more : List StoredPacket) (left rest octets : List ℕ)
       → Begins order packets rest octets → Begins order more left rest

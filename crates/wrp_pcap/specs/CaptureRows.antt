@@ -24,7 +24,7 @@ worked_header = 0xD4 ∷ 0xC3 ∷ 0xB2 ∷ 0xA1 ∷ low_rest
 abbrev pub worked_numbers : List ℕ
 worked_numbers = 0 ∷ 0 ∷ 0 ∷ 0 ∷ 0 ∷ 0 ∷ 0 ∷ 0 ∷ 70 ∷ 0 ∷ 0 ∷ 0 ∷ 70 ∷ 0 ∷ 0 ∷ 0 ∷ []
 
--- the packet's octets: the address of PTP, that of its sender, the EtherType of PTP, and a frame
+-- the packet's octets: the address of PTP, the address of its sender, the EtherType of PTP, and a frame
 abbrev pub worked_packet : List ℕ → List ℕ
 worked_packet frame =
     0x01 ∷ 0x1B ∷ 0x19 ∷ 0x00 ∷ 0x00 ∷ 0x00 ∷ 0x00 ∷ 0x1B ∷ 0xC5 ∷ 0x00 ∷ 0x00 ∷ 0x02 ∷ 0x88 ∷ 0xF7
@@ -36,7 +36,7 @@ tagged_packet frame =
     0x01 ∷ 0x1B ∷ 0x19 ∷ 0x00 ∷ 0x00 ∷ 0x00 ∷ 0x00 ∷ 0x1B ∷ 0xC5 ∷ 0x00 ∷ 0x00 ∷ 0x02 ∷ 0x81 ∷ 0x00
     ∷ 0x00 ∷ 0x01 ∷ 0x88 ∷ 0xF7 ∷ frame
 
--- the header with one packet of such a frame behind it
+-- the header followed by one packet of such a frame
 abbrev pub worked_capture : List ℕ → List ℕ
 worked_capture frame = worked_header ++ (worked_numbers ++ worked_packet frame)
 
@@ -56,16 +56,16 @@ IsFirstRefused fault octets = IsReadAs [] (Some (record { packet = 1; fault = fa
 pub record CapturesAreRows : Type 0 where
   -- the header alone is a capture of no packets
   pub none : IsReadAs [] None worked_header
-  -- with a packet behind it, of 70 octets, it is a capture of that packet
+  -- followed by a packet of 70 octets, it is a capture of that packet
   pub one : (frame : List ℕ) → length frame ≡ 56
       → IsReadAs (record { numbers = worked_numbers; octets = worked_packet frame } ∷ []) None
       (worked_capture frame)
-  -- so it is with a packet of 262,144 octets, the most that a packet may have
+  -- the same holds for a packet of 262,144 octets, the most that a packet may have
   pub longest : (octets : List ℕ) → length octets ≡ 262_144
       → IsReadAs (record { numbers = longest_numbers; octets = octets } ∷ []) None
       (worked_header ++ (longest_numbers ++ octets))
-  -- without the last octet the first packet is refused; so it is where the captured length is one more than the
-  -- most, and nothing stands behind the numbers; and where the numbers are cut
+  -- without the last octet the first packet is refused; so it is if the captured length is one more than the most, and
+  -- nothing follows the numbers; and if the numbers are cut
   pub cut : (frame : List ℕ) → length frame ≡ 55 → IsFirstRefused Packet (worked_capture frame)
   pub long : IsFirstRefused Long (worked_header ++ long_numbers)
   pub few : (octets : List ℕ) → length octets ≡ 15 → IsFirstRefused Header (worked_header ++ octets)
@@ -74,11 +74,11 @@ pub record CapturesAreRows : Type 0 where
   pub low_nanoseconds : HasHeader Little (0x4D ∷ 0x3C ∷ 0xB2 ∷ 0xA1 ∷ low_rest)
   pub high : HasHeader Big (0xA1 ∷ 0xB2 ∷ 0xC3 ∷ 0xD4 ∷ high_rest)
   pub high_nanoseconds : HasHeader Big (0xA1 ∷ 0xB2 ∷ 0x3C ∷ 0x4D ∷ high_rest)
-  -- a header that is cut, that of pcapng, and a magic of one order with the numbers of the other
+  -- a header that is cut, the header of pcapng, and a magic of one order with the numbers of the other
   pub short : (octets : List ℕ) → length octets ≡ 23 → HasHeaderFault Magic octets
   pub pcapng : HasHeaderFault Magic (0x0A ∷ 0x0D ∷ 0x0D ∷ 0x0A ∷ low_rest)
   pub other_order : HasHeaderFault LinkType (0xA1 ∷ 0xB2 ∷ 0xC3 ∷ 0xD4 ∷ low_rest)
-  -- the packet carries the frame, which may be empty, also behind one VLAN tag, and not behind two
+  -- the packet carries the frame, which may be empty, also after one VLAN tag, but not after two
   pub carries : (frame : List ℕ) → Carries (worked_packet frame) frame
   pub tagged : (frame : List ℕ) → Carries (tagged_packet frame) frame
   pub tagged_twice : (frame other : List ℕ)

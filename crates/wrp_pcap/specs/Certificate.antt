@@ -1,5 +1,5 @@
--- The certificate of a handshake: whether the messages of one stand behind a WR_MODE_ON, looked for backwards from it. Lists
--- of captured messages have the newest first (this project's profile).
+-- The certificate of a handshake: whether the messages of one precede a WR_MODE_ON, looked for backwards from it.
+-- Lists of captured messages have the newest first (this project's profile).
 use Rattle.std.specs.Prelude.{ℕ, ◌<◌, ◌==◌, ◌&&◌, Bool, true, false, if◌then◌else◌, nat_lt, List, [], ◌∷◌, ◌++◌, length, get_or, Option, None, Some}
 use Rattle.std.specs.List.{AllByRecursion}
 use Rattle.std.specs.Option.{option_or}
@@ -43,13 +43,13 @@ is_calibrated _ = false
 abbrev pub same_port : PortIdentity → PortIdentity → Bool
 same_port a b = a.clock == b.clock && a.port == b.port
 
--- whether what is sent from one port to another goes from this one to that: ports are told apart by the letter, the target
+-- whether what is sent from one port to another goes from this one to that: ports are compared literally, the target
 -- of all ones too
 abbrev pub goes : (source target : PortIdentity) → (from to : PortIdentity) → Bool
 goes source target from to = same_port source from && same_port target to
 
--- whether a body is that of a Signaling from one port to another with a White Rabbit message of this kind; the port that
--- sent it is the first
+-- whether a body is the body of a Signaling from one port to another with a White Rabbit message of this kind; the
+-- port that sent it is the first
 abbrev pub carries : PortIdentity → (WrMsg → Bool) → (from to : PortIdentity) → Body → Bool
 carries source kind from to (Signal target (Some message)) = kind message && goes source target from to
 carries source kind from to _ = false
@@ -58,7 +58,7 @@ carries source kind from to _ = false
 abbrev pub is_sent : (WrMsg → Bool) → (from to : PortIdentity) → Captured → Bool
 is_sent kind from to captured = carries captured.message.head.source kind from to captured.message.body
 
--- the messages of the handshake of a master and its slave up to one of them, that one first; so many of them are its place
+-- the messages of the handshake of a master and its slave up to one of them, that one first; its place is their number
 abbrev pub to_present : (master slave : PortIdentity) → List (Captured → Bool)
 to_present master slave = is_sent is_present slave master ∷ []
 
@@ -111,7 +111,7 @@ first_above test number (newest ∷ before) =
 abbrev pub lock_of : List ℕ → ℕ
 lock_of numbers = get_or numbers 1 0
 
--- the messages are there, and their numbers are these: a SLAVE_PRESENT behind the LOCK began the handshake again
+-- the messages are there, and their numbers are these: a SLAVE_PRESENT after the LOCK began the handshake again
 abbrev pub unless_restarted : Option ℕ → List ℕ → Verdict8
 unless_restarted (Some number) numbers = Restarted number
 unless_restarted None numbers = Complete numbers
@@ -121,11 +121,11 @@ told_by master slave number before (lacks place) = Missing place
 told_by master slave number before (finds numbers) =
     unless_restarted (first_above (is_sent is_present slave master) (lock_of numbers) before) (numbers ++ number ∷ [])
 
--- the verdict on a WR_MODE_ON with this number from a master to its slave, behind these messages
+-- the verdict on a WR_MODE_ON with this number from a master to its slave, after these messages
 abbrev pub certificate : (master slave : PortIdentity) → ℕ → List Captured → Verdict8
 certificate master slave number before = told_by master slave number before (look_back (to_slave_calibrated master slave) before)
 
--- what a message tells: a WR_MODE_ON its verdict, any other nothing
+-- the verdict on a message: a WR_MODE_ON has one, any other message has none
 abbrev pub verdict_on : PortIdentity → ℕ → List Captured → Body → Option Verdict8
 verdict_on source number before (Signal target (Some WR_MODE_ON)) = Some (certificate source target number before)
 verdict_on source number before _ = None
@@ -135,11 +135,11 @@ verdict_of captured before = verdict_on captured.message.head.source captured.nu
 
 -- ---- numbers
 
--- a number is above those of these messages
+-- a number is above the numbers of these messages
 abbrev pub IsAbove : ℕ → List Captured → Type 0
 IsAbove number captured = AllByRecursion (λ c. c.number < number) captured
 
--- the number of each message is above those of the messages before it
+-- the number of each message is above the numbers of the messages before it
 abbrev pub Falls : List Captured → Type 0
 Falls [] = Unit {0}
 Falls (newest ∷ before) = IsAbove newest.number before × Falls before

@@ -43,17 +43,17 @@ trail_of master slave captured =
 
 -- ---- what a message makes of it
 
--- the next message of the handshake behind these
+-- the next message of the handshake after these
 abbrev pub followed : ℕ → Behind → Behind
 followed number (behind.Missing place) = behind.Missing place
 followed number (behind.Whole numbers restart) = behind.Whole (number ∷ take 6 numbers) restart
 
--- a LOCK behind a SLAVE_PRESENT
+-- a LOCK after a SLAVE_PRESENT
 abbrev pub locked_behind : ℕ → Option ℕ → Behind
 locked_behind number None = behind.Missing 1
 locked_behind number (Some present) = behind.Whole (number ∷ present ∷ replicate 5 0) None
 
--- a SLAVE_PRESENT behind these: the first since the LOCK counts
+-- a SLAVE_PRESENT after these: the first since the LOCK counts
 abbrev pub begun_again : ℕ → Behind → Behind
 begun_again number (behind.Missing place) = behind.Missing place
 begun_again number (behind.Whole numbers None) = behind.Whole numbers (Some number)

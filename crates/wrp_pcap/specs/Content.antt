@@ -12,7 +12,7 @@ HasContent packet Other = CarriesNone packet
 HasContent packet (Message message) = CarriesMessage packet message
 HasContent packet (Fault fault) = CarriesFault packet fault
 
--- each packet carries what stands in its place
+-- each packet carries the content at its place
 abbrev pub HaveContents : List (List ℕ) → List Content → Type 0
 HaveContents [] [] = Unit {0}
 HaveContents (packet ∷ packets) (content ∷ contents) =

@@ -30,7 +30,7 @@ pub record IsIn (packets : List StoredPacket) (test : Captured → Bool) (number
   pub carries : CarriesMessage packet.octets message
   pub holds : test (record { number = number; message = message }) ≡ true
 
--- so it is of each of these tests with its number: the first test has the last number
+-- so it is for each of these tests with its number: the first test has the last number
 abbrev pub AreIn : List StoredPacket → List (Captured → Bool) → List ℕ → Type 0
 AreIn packets [] numbers = numbers ≡ []
 AreIn packets (test ∷ tests) numbers =

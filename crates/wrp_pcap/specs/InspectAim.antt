@@ -22,8 +22,8 @@ use Rattle.wrp_pcap.specs.PacketLines.{told_of}
 
 -- ---- verdicts
 
--- a packet with this number carries a WR_MODE_ON from a master to its slave, and after the messages of the packets before
--- it this verdict is due
+-- a packet with this number carries a WR_MODE_ON from a master to its slave, and this verdict is expected after the
+-- messages of the packets before it
 pub record HasDue (number : ℕ) (before : List Captured) (content : Content) (verdict : Verdict8) : Type 0 where
   pub message : PtpMsg
   pub slave : PortIdentity
@@ -31,7 +31,7 @@ pub record HasDue (number : ℕ) (before : List Captured) (content : Content) (v
   pub asks : is_sent is_mode_on message.head.source slave (record { number = number; message = message }) ≡ true
   pub due : IsDue message.head.source slave number before verdict
 
--- each verdict that is printed is the one that is due, and each WR_MODE_ON has a verdict
+-- each verdict that is printed is the expected one, and each WR_MODE_ON has a verdict
 pub record VerdictsAreDue : Type 0 where
   pub due : (content : Content) (before : List Content) (verdict : Verdict8)
       → told_of (length before + 1) (messages_of before) content ≡ Some verdict
@@ -53,8 +53,8 @@ abbrev pub NamesHandshake : List StoredPacket → Verdict8 → Type 0
 NamesHandshake packets (Complete numbers) = AreJudged numbers × AreHandshake packets numbers
 NamesHandshake packets _ = Unit {0}
 
--- each verdict on one of the first packets of a capture is the one that is due, and each `complete` names eight packets of
--- that capture
+-- each verdict on one of the first packets of a capture is the expected one, and each `complete` names eight packets
+-- of that capture
 abbrev pub JudgesHandshakes : List ℕ → Type 0
 JudgesHandshakes input =
     (order : Order) (packets : List StoredPacket) (rest : List ℕ) → HasHeader order input
@@ -65,15 +65,15 @@ JudgesHandshakes input =
 
 -- ---- what is written
 
--- the first octets of what is due, or of the lines of the first packets
+-- the first octets of what is expected, or of the lines of the first packets
 abbrev pub InspectPart : List ℕ → List ℕ → Type 0
 InspectPart input text =
     (whole : List ℕ) × (count : ℕ) × (text ≡ take count whole)
     × (((status : Status) × InspectAnswer input status whole) ⊎ InspectFirst input whole)
 
--- what an inspection of these octets leaves with this status: where the source failed, the lines of exactly the whole
--- packets among what was read; without memory, the lines of the first packets; where a write failed, the first octets of
--- these or of what is due; and else what is due
+-- what an inspection of these octets leaves with this status: if the source failed, the lines of exactly the whole
+-- packets among what was read; if memory ran out, the lines of the first packets; if a write failed, the first octets
+-- of these or of what is expected; and else what is expected
 abbrev pub InspectLeaves : List ℕ → Status → List ℕ → Type 0
 InspectLeaves input ReadFault text =
     (taken : List ℕ) × (left : List ℕ) × (input ≡ taken ++ left) × InspectCut taken text
@@ -85,6 +85,6 @@ InspectLeaves input status text = InspectAnswer input status text
 abbrev pub InspectsSo : List ℕ → Status → List ℕ → Type 0
 InspectsSo input status text = InspectLeaves input status text × JudgesHandshakes input
 
--- the lines that stand where the source failed are those of the first packets, however the input goes on
+-- if the source failed, the lines that are left are the lines of the first packets, however the input goes on
 abbrev pub CutsAreFirst : Type 0
 CutsAreFirst = (taken left text : List ℕ) → InspectCut taken text → InspectFirst (taken ++ left) text

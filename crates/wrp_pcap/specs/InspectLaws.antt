@@ -17,15 +17,15 @@ use Rattle.wrp_pcap.specs.Inspected.{capture, Carry, InspectAnswer, PacketRefuse
 use Rattle.wrp_pcap.specs.Marks.{Rises, slave_marks, master_marks}
 use Rattle.wrp_pcap.specs.PacketLines.{sum_line, text_of, told_of}
 
--- of an input one status and one text are due
+-- for an input one status and one text are expected
 abbrev pub OneIsDue : Type 0
 OneIsDue =
     (octets : List ℕ) (calls : List LinkCall) (one other : Status) (text other_text : List ℕ)
     → capture.answers octets calls one text → capture.answers octets calls other other_text
     → (one ≡ other) × (text ≡ other_text)
 
--- what is due where a whole header is refused, or a packet that is too long or has too great a number, is due however
--- the input goes on
+-- if a whole header is refused, or a packet that is too long or has too great a number, what is expected stays
+-- expected however the input goes on
 pub record RefusalsStay : Type 0 where
   pub header : (fault : CaptureFault) (octets more text : List ℕ)
       → 24 ≤ length octets → HasHeaderFault fault octets
@@ -46,8 +46,8 @@ pub record PacketsAreLimited : Type 0 where
       → 0 < length rest → Carry packets contents
       → InspectAnswer octets TooLarge (text_of contents ++ large_line 4_294_967_296)
 
--- the numbers of each `complete` that is told of a packet rise, and by the marks of these numbers both ends are in the
--- same handshake
+-- the numbers of each verdict `complete` on a packet rise, and by the marks of these numbers both ends are in the same
+-- handshake
 abbrev pub CompleteIsJudged : Type 0
 CompleteIsJudged =
     (newest : Content) (before : List Content) (numbers : List ℕ)

@@ -1,4 +1,4 @@
--- What is written of the octets of a capture that is inspected, and with which status (this project's profile).
+-- What is written for the octets of a capture that is inspected, and with which status (this project's profile).
 use Rattle.std.specs.Prelude.{◌≡◌, ◌⊎◌, ℕ, ◌+◌, ◌^◌, ◌<◌, ◌≤◌, List, [], ◌∷◌, ◌++◌, length, map, reverse, drop, None, codes}
 use Rattle.std.specs.Fmt.{decimal}
 use Rattle.wrp_records.specs.declared.status.Status.{Status}
@@ -15,11 +15,11 @@ use Rattle.wrp_pcap.specs.Capture.{StoredPacket, HasHeader, HasHeaderFault, Begi
 use Rattle.wrp_pcap.specs.Content.{HaveContents}
 use Rattle.wrp_pcap.specs.PacketLines.{text_of, sum_line}
 
--- these packets of a file, the first one first, carry this, of which the newest stands first
+-- these packets of a file, the first one first, carry this, with the newest first
 abbrev pub Carry : List StoredPacket → List Content → Type 0
 Carry packets contents = HaveContents (reverse (map (λ packet. packet.octets) packets)) contents
 
--- the last line where a capture is refused at a packet, counted from 1, or at its header, which is packet 0
+-- the last line if a capture is refused at a packet, counted from 1, or at its header, which is packet 0
 abbrev pub bad_capture_line : Refusal → List ℕ
 bad_capture_line refusal =
     line_of
@@ -45,7 +45,7 @@ pub record IsBadCapture (octets text : List ℕ) : Type 0 where
   pub carry : Carry packets contents
   pub is : text ≡ text_of contents ++ bad_capture_line refusal
 
--- behind the packets that may have a number an octet stands, of a packet with a greater one, whatever it is: the lines
+-- after the packets that may have a number there is an octet of a packet with a greater one, whatever it is: the lines
 -- of the packets before, and that number
 pub record IsTooMany (octets text : List ℕ) : Type 0 where
   pub order : Order
@@ -59,7 +59,7 @@ pub record IsTooMany (octets text : List ℕ) : Type 0 where
   pub carry : Carry packets contents
   pub is : text ≡ text_of contents ++ large_line (2 ^ 32)
 
--- what is due for a whole input
+-- what is expected for a whole input
 abbrev pub InspectAnswer : List ℕ → Status → List ℕ → Type 0
 InspectAnswer octets Done text = IsInspected octets text
 InspectAnswer octets BadCapture text = IsBadCapture octets text
@@ -82,8 +82,8 @@ pub record FirstPackets (octets text : List ℕ) : Type 0 where
 abbrev pub InspectFirst : List ℕ → List ℕ → Type 0
 InspectFirst octets text = (text ≡ []) ⊎ FirstPackets octets text
 
--- the lines of exactly the whole packets among these octets: the one behind them is cut, neither too long nor one too
--- many
+-- the lines of exactly the whole packets among these octets: the packet after them is cut, neither too long nor one
+-- too many
 pub record CutBehind (octets text : List ℕ) : Type 0 where
   pub order : Order
   pub packets : List StoredPacket
@@ -97,7 +97,7 @@ pub record CutBehind (octets text : List ℕ) : Type 0 where
   pub carry : Carry packets contents
   pub is : text ≡ text_of contents
 
--- what stands where the source failed behind these octets, in which no refusal stands: nothing behind a cut header
+-- what is left if the source failed after these octets, in which nothing is refused: nothing after a cut header
 abbrev pub InspectCut : List ℕ → List ℕ → Type 0
 InspectCut octets text = ((length octets < 24) × (text ≡ [])) ⊎ CutBehind octets text
 

@@ -25,8 +25,7 @@ use Rattle.wrp_pcap.specs.PacketLines.{text_of, sum_line}
 abbrev pub piece_limit : ℕ
 piece_limit = 65_536
 
--- of the octets that are held at most one piece stands behind the packet in front, or behind the numbers of one that is
--- too long
+-- of the octets that are held, at most one piece follows the packet in front, or the numbers of one that is too long
 pub record IsNear (order : Order) (rest : List ℕ) : Type 0 where
   pub whole : IsWhole order rest → length rest ≤ 16 + captured order rest + piece_limit
   pub long : HasPacketFault Long order rest → length rest ≤ 16 + piece_limit
@@ -44,7 +43,7 @@ pub record Reached (order : Order) (taken out : List ℕ) (inspection : Inspecti
   pub has : HasTaken inspection contents
   pub waits : text_of contents ≡ out ++ waiting
 
--- what comes next behind so many packets
+-- what comes next after this many packets
 abbrev pub IsNextStep : Order → ℕ → List ℕ → Step → Type 0
 IsNextStep order packets rest step.Packet = IsWhole order rest × (packets + 1 < 2 ^ 32)
 IsNextStep order packets rest step.More =
@@ -53,15 +52,15 @@ IsNextStep order packets rest step.Long =
     HasPacketFault Long order rest × (packets + 1 < 2 ^ 32)
 IsNextStep order packets rest step.TooLarge = (0 < length rest) × (packets + 1 ≡ 2 ^ 32)
 
--- why no more of the octets that are held is taken, behind so many packets
+-- why no more of the octets that are held is taken, after this many packets
 abbrev pub Stops : Order → ℕ → List ℕ → Stop → Type 0
 Stops order packets rest stop.More = IsNextStep order packets rest step.More
 Stops order packets rest stop.Long = IsNextStep order packets rest step.Long
 Stops order packets rest stop.TooLarge = IsNextStep order packets rest step.TooLarge
 Stops order packets rest stop.Memory = Unit {0}
 
--- what is written last, behind the lines of packets that carry this, and with which status, where the rest is held and
--- the input ended or not
+-- what is written last, after the lines of packets that carry this, and with which status, if the rest is held and the
+-- input ended or not
 abbrev pub Tells : Order → List Content → List ℕ → Bool → Status → List ℕ → Type 0
 Tells order contents rest ended status.Done last =
     (ended ≡ true) × (rest ≡ []) × (last ≡ sum_line contents)
@@ -74,12 +73,12 @@ Tells order contents rest ended status.TooLarge last =
 Tells order contents rest ended status.OutOfMemory last = last ≡ []
 Tells order contents rest ended _ last = ⊥
 
--- a text with what is written last behind it
+-- a text followed by what is written last
 abbrev pub TellsBehind : Order → List Content → List ℕ → Bool → Status → List ℕ → List ℕ → Type 0
 TellsBehind order contents rest ended status was now =
     (last : List ℕ) × Tells order contents rest ended status last × (now ≡ was ++ last)
 
--- what is written where the header is refused, or there is no memory for its line
+-- what is written if the header is refused, or memory runs out for its line
 abbrev pub TellsHeader : CaptureFault → Status → Option (List ℕ) → Option (List ℕ) → Type 0
 TellsHeader fault given before now =
     ((given ≡ status.OutOfMemory) × Appends before now [])
@@ -90,8 +89,8 @@ TellsHeader fault given before now =
 abbrev pub weight : Inspection → List ℕ → ℕ
 weight inspection rest = packets_taken inspection * 262_160 + length rest
 
--- what asking for a piece gives, where something is held: a piece behind it, or the end, or a failure; or there is no
--- memory for it
+-- what asking for a piece gives, if something is held: a piece that follows it, or the end, or a failure; or there is
+-- no memory for the piece
 abbrev pub Refills : Option (List ℕ) → Option (List ℕ) → List ℕ → List ℕ → Refilled → Type 0
 Refills before now was rest Piece =
     (given : List ℕ) × Consumes before now given × (rest ≡ was ++ given) × (0 < length given)
@@ -108,7 +107,7 @@ FillsHeader before now held End = Consumes before now held × IsAtEnd now × (le
 FillsHeader before now held Failed = Consumes before now held × (length held < 24)
 FillsHeader before now held Memory = (given : List ℕ) × Consumes before now given
 
--- the handling has come so far behind these octets: what it took and wrote, and what it reached
+-- the handling has come this far after these octets: what it took and wrote, and what it reached
 pub record Goes (order : Order) (start : List ℕ) (left left_now held held_now : Option (List ℕ))
     (inspection : Inspection) (rest waiting : List ℕ) : Type 0 where
   pub given : List ℕ
@@ -117,7 +116,7 @@ pub record Goes (order : Order) (start : List ℕ) (left left_now held held_now 
   pub wrote : Appends held held_now out
   pub reached : Reached order (start ++ given) out inspection rest waiting
 
--- what is held is all that stands behind a header
+-- what is held is all that follows a header
 pub record IsBehindHeader (order : Order) (start rest : List ℕ) : Type 0 where
   pub header : HasHeader order start
   pub rest_is : rest ≡ drop 24 start

@@ -1,4 +1,4 @@
--- The packets that an inspection stands for, by what they carry, the newest first (this project's profile).
+-- The packets that an inspection represents, by what they carry, the newest first (this project's profile).
 use Rattle.std.specs.Prelude.{◌≡◌, ℕ, ◌+◌, List, ◌∷◌, ◌++◌, length}
 use Rattle.std.specs.List.{count_by}
 use Rattle.wrp_pcap.specs.declared.counts.Counts.{Counts}
@@ -18,7 +18,7 @@ pub record AreCounts (counts : Counts) (contents : List Content) : Type 0 where
   pub faults : counts.faults ≡ count_by is_faulty contents
   pub complete : counts.complete ≡ complete_count contents
 
--- the inspection stands for packets that carry this
+-- the inspection represents packets that carry this
 pub record HasTaken (inspection : Inspection) (contents : List Content) : Type 0 where
   pub stands : StandsFor inspection.pairs (messages_of contents)
   pub counts : AreCounts inspection.counts contents
@@ -27,7 +27,7 @@ pub record HasTaken (inspection : Inspection) (contents : List Content) : Type 0
 abbrev pub packets_taken : Inspection → ℕ
 packets_taken inspection = inspection.counts.packets
 
--- a packet was taken: its lines stand behind a text, and the inspection stands for one packet more
+-- a packet was taken: its lines follow a text, and the inspection represents one more packet
 pub record Took (packet : List ℕ) (old new : Inspection) (was now : List ℕ) : Type 0 where
   pub content : Content
   pub has : HasContent packet content

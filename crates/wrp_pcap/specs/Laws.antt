@@ -18,15 +18,15 @@ pub record IsLast (test : Captured → Bool) (captured : List Captured) (number 
   pub others : AllByRecursion (λ c. test c ≡ false) later
   pub number_is : last.number ≡ number
 
--- the numbers of some messages of a handshake, the first of the handshake first: each is the last of its kind before the
--- one behind it
+-- the numbers of some messages of a handshake, the first of the handshake first: each is the last of its kind before
+-- the next one
 abbrev pub AreLast : List (Captured → Bool) → List Captured → List ℕ → Type 0
 AreLast [] captured numbers = numbers ≡ []
 AreLast (step ∷ steps) captured numbers =
     (earlier : List ℕ) × (number : ℕ) × (before : List Captured) ×
     (numbers ≡ earlier ++ number ∷ []) × IsLast step captured number before × AreLast steps before earlier
 
--- a place is the greatest of which there is no message: those of the places above are there
+-- a place is the greatest of which there is no message: the messages of the places above are there
 abbrev pub IsMissing : List (Captured → Bool) → List Captured → ℕ → Type 0
 IsMissing [] captured place = ⊥
 IsMissing (step ∷ steps) captured place =
@@ -38,14 +38,14 @@ abbrev pub NoneAbove : (master slave : PortIdentity) → ℕ → List Captured �
 NoneAbove master slave number captured =
     AllByRecursion (λ c. is_sent is_present slave master c ≡ true → c.number ≤ number) captured
 
--- all messages are there, and no SLAVE_PRESENT came behind the LOCK
+-- all messages are there, and no SLAVE_PRESENT came after the LOCK
 pub record IsComplete (master slave : PortIdentity) (number : ℕ) (captured : List Captured) (all : List ℕ) : Type 0 where
   pub numbers : List ℕ
   pub all_are : all ≡ numbers ++ number ∷ []
   pub last : AreLast (to_slave_calibrated master slave) captured numbers
   pub none : NoneAbove master slave (lock_of numbers) captured
 
--- all messages are there, and the first SLAVE_PRESENT behind the LOCK has this number
+-- all messages are there, and the first SLAVE_PRESENT after the LOCK has this number
 pub record IsRestarted (master slave : PortIdentity) (captured : List Captured) (restart : ℕ) : Type 0 where
   pub numbers : List ℕ
   pub last : AreLast (to_slave_calibrated master slave) captured numbers
@@ -70,7 +70,7 @@ CertificateIsDue =
 
 -- ---- numbers
 
--- the numbers of a complete certificate rise, where those of the messages do
+-- the numbers of a complete certificate rise if the numbers of the messages do
 abbrev pub CompleteRises : Type 0
 CompleteRises =
     (master slave : PortIdentity) (number : ℕ) (before : List Captured) (numbers : List ℕ) → Falls before → IsAbove number before →

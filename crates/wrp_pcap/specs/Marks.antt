@@ -1,5 +1,5 @@
--- The marks that a complete handshake leaves at both ends, the oldest first, with the numbers of packets in the place of times
--- (this project's profile).
+-- The marks that a complete handshake leaves at both ends, the oldest first, with the numbers of packets in place of
+-- times (this project's profile).
 use Rattle.std.specs.Prelude.{ℕ, ◌<◌, pos, List, [], ◌∷◌, get_or, None, Some}
 use Rattle.wrp_base.specs.declared.link.LinkState.{LinkState}
 use Rattle.wrp_base.specs.declared.link.LinkState.TheVariants.{Idle, Present, SLock, MLock, Locked, Calibration, Calibrated, RespCalib, LinkOn}

@@ -1,5 +1,5 @@
--- The lines that are told of the packets of a capture (this project's profile). Lists of what packets carry have the
--- newest first.
+-- The lines that are written for the packets of a capture (this project's profile). Lists of what packets carry have
+-- the newest first.
 use Rattle.std.specs.Prelude.{ℕ, ◌+◌, Bool, true, false, if◌then◌else◌, List, [], ◌∷◌, ◌++◌, map, length, option_to_list, Option, None, Some, codes}
 use Rattle.std.specs.Fmt.{decimal}
 use Rattle.std.specs.List.{count_by}
@@ -29,7 +29,7 @@ spaced (word ∷ words) = 32 ∷ word ++ spaced words
 abbrev pub identity : PortIdentity → List ℕ
 identity port = encode_lower (big_bytes 8 port.clock) ++ codes ":" ++ decimal port.port
 
--- a message: its kind, where it comes from, its sequenceId, and the word of the White Rabbit message that it carries
+-- a message: its kind, its source, its sequenceId, and the word of the White Rabbit message that it carries
 abbrev pub message_words : ℕ → PtpMsg → List (List ℕ)
 message_words number message =
     decimal number ∷ kind_word message.body ∷ identity message.head.source ∷ decimal message.head.seq
@@ -46,36 +46,36 @@ verdict_words (Complete numbers) = codes "complete" ∷ map decimal numbers
 verdict_words (Restarted number) = codes "restarted" ∷ decimal number ∷ []
 verdict_words (Missing place) = codes "missing" ∷ decimal place ∷ []
 
--- the line of the verdict on a WR_MODE_ON from its sender to the port that it is for, where there is one
+-- the line of the verdict on a WR_MODE_ON from its sender to the port that it is for, if there is one
 abbrev pub verdict_line : ℕ → PortIdentity → Body → Option Verdict8 → List ℕ
 verdict_line number source (Signal target wr) (Some verdict) =
     line_of (decimal number ∷ codes "link" ∷ identity source ∷ identity target ∷ verdict_words verdict)
 verdict_line number source _ _ = []
 
--- what is told of what a packet carries, behind these messages: of a WR_MODE_ON the verdict
+-- the verdict on what a packet carries, after these messages: only a WR_MODE_ON has one
 abbrev pub told_of : ℕ → List Captured → Content → Option Verdict8
 told_of number before (Message message) =
     verdict_of (record { number = number; message = message }) before
 told_of number before _ = None
 
--- the lines of what a packet carries, with what is told of it
+-- the lines of what a packet carries, with the verdict on it
 abbrev pub lines_with : ℕ → Content → Option Verdict8 → List ℕ
 lines_with number Other told = []
 lines_with number (Message message) told =
     line_of (message_words number message) ++ verdict_line number message.head.source message.body told
 lines_with number (Fault fault) told = line_of (fault_words number fault)
 
--- the lines of a packet with this number, behind these messages
+-- the lines of a packet with this number, after these messages
 abbrev pub packet_lines : ℕ → List Captured → Content → List ℕ
 packet_lines number before content = lines_with number content (told_of number before content)
 
--- the lines of packets, those of the newest last
+-- the lines of packets, the newest packet's last
 abbrev pub text_of : List Content → List ℕ
 text_of [] = []
 text_of (newest ∷ before) =
     text_of before ++ packet_lines (length before + 1) (messages_of before) newest
 
--- ---- the counts behind the last packet
+-- ---- the counts after the last packet
 
 -- whether a packet carries a message, a frame that is none, or no PTP frame
 abbrev pub is_message : Content → Bool
@@ -90,20 +90,20 @@ abbrev pub is_other : Content → Bool
 is_other Other = true
 is_other _ = false
 
--- whether the verdict `complete` is told
+-- whether the verdict is `complete`
 abbrev pub is_complete : Option Verdict8 → Bool
 is_complete (Some (Complete numbers)) = true
 is_complete _ = false
 
--- of how many packets the verdict `complete` is told
+-- for how many packets the verdict is `complete`
 abbrev pub complete_count : List Content → ℕ
 complete_count [] = 0
 complete_count (newest ∷ before) =
     (if is_complete (told_of (length before + 1) (messages_of before) newest) then 1 else 0)
     + complete_count before
 
--- the last line: how many packets there are, how many of them carry a message, how many carry no PTP frame, how many
--- a frame that is no message, and of how many the verdict `complete` is told
+-- the last line: how many packets there are, how many of them carry a message, how many carry no PTP frame, how many a
+-- frame that is no message, and for how many the verdict is `complete`
 abbrev pub sum_line : List Content → List ℕ
 sum_line contents =
     line_of

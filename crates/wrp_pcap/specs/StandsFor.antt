@@ -27,7 +27,7 @@ port_cmp a b = ordering_then (nat_cmp a.0 b.0) (nat_cmp a.1 b.1)
 abbrev pub key_cmp : Key → Key → Ordering
 key_cmp a b = ordering_then (port_cmp a.0 b.0) (port_cmp a.1 b.1)
 
--- the trail of a master and its slave, which is that of no message where the table has none
+-- the trail of a master and its slave, which is the trail of no message if the table has none
 abbrev pub trail_at : Pairs → (master slave : PortIdentity) → Trail
 trail_at pairs master slave = unwrap_or (tree.get key_cmp pairs.chains (key master slave)) (trail_of master slave [])
 
@@ -50,19 +50,19 @@ pub record Opened (old new : Pairs) : Type 0 where
   pub chains : (master slave : PortIdentity) → trail_at new master slave ≡ trail_at old master slave
   pub room : KeepsRoom old new
 
--- a chain was written in the place of its pair's
+-- a chain was written in place of its pair's
 abbrev pub Written : (master slave : PortIdentity) → Trail → Pairs → Pairs → Type 0
 Written master slave chain old new =
     (m s : PortIdentity) → trail_at new m s ≡ (if goes master slave m s then chain else trail_at old m s)
 
--- what a message from one port to another makes of the chains of which the one is the master and the other the slave
+-- what a message from one port to another makes of the chains in which the one is the master and the other the slave
 abbrev pub HeardAsMaster : (source target : PortIdentity) → WrMsg → ℕ → Pairs → Pairs → Type 0
 HeardAsMaster source target message number old new =
     (master slave : PortIdentity) →
     trail_at new master slave
     ≡ (if goes source target master slave then after_master message number (trail_at old master slave) else trail_at old master slave)
 
--- and of those of which the one is the slave and the other the master
+-- and of the chains in which the one is the slave and the other the master
 abbrev pub HeardAsSlave : (source target : PortIdentity) → WrMsg → ℕ → Pairs → Pairs → Type 0
 HeardAsSlave source target message number old new =
     (master slave : PortIdentity) →
@@ -89,7 +89,7 @@ abbrev pub Kept : ℕ → PortIdentity → Body → Pairs → Pairs → Type 0
 Kept number source body old new =
     (master slave : PortIdentity) → trail_at new master slave ≡ kept_at source number master slave body (trail_at old master slave)
 
--- what is told of a captured message
+-- the verdict on a captured message, if there is one
 abbrev pub told_at : Pairs → ℕ → PortIdentity → Body → Option Verdict8
 told_at pairs number source (Signal target (Some WR_MODE_ON)) = Some (verdict_behind number (trail_at pairs source target).slave_calibrated)
 told_at pairs number source _ = None

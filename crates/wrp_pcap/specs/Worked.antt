@@ -32,7 +32,7 @@ abbrev pub packet : ℕ → PortIdentity → PortIdentity → WrMsg → Captured
 packet number source target message =
     record { number = number; message = record { head = head_from source; body = Signal target (Some message) } }
 
--- the messages of a handshake from packet number n on, but for the last, the oldest first
+-- the messages of a handshake from packet number n on, except the last, the oldest first
 abbrev pub seven : ℕ → PortIdentity → PortIdentity → List Captured
 seven n master slave =
     packet n slave master SLAVE_PRESENT ∷
@@ -44,7 +44,7 @@ seven n master slave =
     (packet (n + 6) slave master (CALIBRATED 3 4) ∷
     []))))))
 
--- what is told of a WR_MODE_ON with the number n, behind messages with the oldest first
+-- the verdict on a WR_MODE_ON with the number n, after messages with the oldest first
 abbrev pub told : ℕ → PortIdentity → PortIdentity → List Captured → Option Verdict8
 told n source target before = verdict_of (packet n source target WR_MODE_ON) (reverse before)
 
@@ -68,7 +68,7 @@ in_turn =
     [])))))))))))))
 
 pub record WorkedCertificates : Type 0 where
-  -- the eight messages in their order; a message that is no WR_MODE_ON is told nothing of
+  -- the eight messages in their order; a message that is no WR_MODE_ON has no verdict
   pub complete : told 8 m s (seven 1 m s) ≡ Some (Complete (1 ∷ (2 ∷ (3 ∷ (4 ∷ (5 ∷ (6 ∷ (7 ∷ (8 ∷ [])))))))))
   pub other : verdict_of (packet 8 m s LOCK) (reverse (seven 1 m s)) ≡ None
   -- each of them left out, and all
@@ -81,7 +81,7 @@ pub record WorkedCertificates : Type 0 where
   pub no_slave_calibrated : told 8 m s (remove (seven 1 m s) 6) ≡ Some (Missing 7)
   pub none : told 8 m s [] ≡ Some (Missing 7)
   pub greatest : told 8 m s (remove (remove (seven 1 m s) 4) 1) ≡ Some (Missing 5)
-  -- SLAVE_PRESENT once more: right behind the LOCK, right before the WR_MODE_ON, at both, and right before the LOCK
+  -- SLAVE_PRESENT once more: right after the LOCK, right before the WR_MODE_ON, at both, and right before the LOCK
   pub behind_lock : told 9 m s (take 2 (seven 1 m s) ++ packet 3 s m SLAVE_PRESENT ∷ drop 2 (seven 2 m s)) ≡ Some (Restarted 3)
   pub at_last : told 9 m s (seven 1 m s ++ packet 8 s m SLAVE_PRESENT ∷ []) ≡ Some (Restarted 8)
   pub twice :
@@ -89,7 +89,7 @@ pub record WorkedCertificates : Type 0 where
       ≡ Some (Restarted 3)
   pub before_lock : told 9 m s (packet 1 s m SLAVE_PRESENT ∷ seven 2 m s)
       ≡ Some (Complete (2 ∷ (3 ∷ (4 ∷ (5 ∷ (6 ∷ (7 ∷ (8 ∷ (9 ∷ [])))))))))
-  -- of messages that come again, the last before the next one counts
+  -- if messages come again, the last before the next one counts
   pub locked_again : told 9 m s (take 3 (seven 1 m s) ++ packet 4 s m LOCKED ∷ drop 3 (seven 2 m s))
       ≡ Some (Complete (1 ∷ (2 ∷ (4 ∷ (5 ∷ (6 ∷ (7 ∷ (8 ∷ (9 ∷ [])))))))))
   pub lock_too_late : told 9 m s (take 3 (seven 1 m s) ++ packet 4 m s LOCK ∷ drop 3 (seven 2 m s))
@@ -109,7 +109,7 @@ pub record WorkedCertificates : Type 0 where
   pub on_to_every_port : told 8 m every_port (seven 1 m s) ≡ Some (Missing 7)
   -- a port that speaks to itself
   pub to_itself : told 8 m m (seven 1 m m) ≡ Some (Complete (1 ∷ (2 ∷ (3 ∷ (4 ∷ (5 ∷ (6 ∷ (7 ∷ (8 ∷ [])))))))))
-  -- one handshake behind another, and a SLAVE_PRESENT behind one
+  -- one handshake after another, and a SLAVE_PRESENT after one
   pub in_a_row : told 18 m s (seven 1 m s ++ packet 8 m s WR_MODE_ON ∷ seven 11 m s)
       ≡ Some (Complete (11 ∷ (12 ∷ (13 ∷ (14 ∷ (15 ∷ (16 ∷ (17 ∷ (18 ∷ [])))))))))
   pub begun_again : told 18 m s (seven 1 m s ++ packet 8 m s WR_MODE_ON ∷ packet 9 s m SLAVE_PRESENT ∷ []) ≡ Some (Restarted 9)

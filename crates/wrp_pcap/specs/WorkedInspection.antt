@@ -1,4 +1,4 @@
--- A capture of one packet, inspected: what stands with each status (this project's profile).
+-- A capture of one packet, inspected: what is left with each status (this project's profile).
 use Rattle.std.specs.Prelude.{◌≡◌, ◌⊎◌, true, List, [], ◌∷◌, ◌++◌, ℕ, Some, codes}
 use Rattle.wrp_base.specs.declared.message.PortIdentity.{PortIdentity}
 use Rattle.wrp_base.specs.declared.message.PtpMsg.{PtpMsg}
@@ -28,15 +28,15 @@ one_sum = codes "sum 1 0 0 1 0\n"
 
 pub record WorkedInspection : Type 0 where
   pub done : InspectLeaves one_packet Done (one_line ++ one_sum)
-  -- where the source failed, or there was no memory, the line stands or nothing does
+  -- if the source failed, or memory ran out, the line is left or nothing is
   pub unread : InspectLeaves one_packet ReadFault []
   pub read : InspectLeaves one_packet ReadFault one_line
   pub read_only : (text : List ℕ) → InspectLeaves one_packet ReadFault text → (text ≡ []) ⊎ (text ≡ one_line)
   pub memory_only : (text : List ℕ) → InspectLeaves one_packet OutOfMemory text → (text ≡ []) ⊎ (text ≡ one_line)
-  -- where a write failed, the first octets of both lines stand
+  -- if a write failed, the first octets of both lines are left
   pub write_only : (text : List ℕ) → InspectLeaves one_packet WriteFault text
       → (rest : List ℕ) × (text ++ rest ≡ one_line ++ one_sum)
-  -- of a WR_MODE_ON that comes first the seventh message is missing
+  -- if a WR_MODE_ON comes first, its seventh message is missing
   pub alone : (message : PtpMsg) (slave : PortIdentity)
       → is_sent is_mode_on message.head.source slave (record { number = 1; message = message }) ≡ true
       → told_of 1 [] (Message message) ≡ Some (Missing 7)

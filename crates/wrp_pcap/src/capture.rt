@@ -1,5 +1,4 @@
-//! The octets of a classic libpcap capture file: its header, and what stands in front of the octets
-//! that are left.
+//! The octets of a classic libpcap capture file: its header, and what the remaining octets begin with.
 ghost use Rattle.std.specs.Prelude.{◌≡◌, ◌↔◌, ◌≤◌, ◌+◌, length, IfOk, IfErr};
 ghost use Rattle.wrp_pcap.specs.Capture.{order_by, number_at, captured, number_of, name_of};
 ghost use Rattle.wrp_pcap.specs.Capture.{HasHeader, HasHeaderFault, IsFront};
@@ -8,16 +7,16 @@ use byteorder::{BigEndian, ByteOrder, LittleEndian};
 
 /// The octets of a capture's header.
 pub const HEADER_LENGTH: usize = 24;
-/// The octets of the four numbers in front of a packet's own.
+/// The octets of the four numbers in front of a packet's own octets.
 pub const NUMBERS_LENGTH: usize = 16;
-/// The most octets of a packet.
+/// The most octets that a packet may have.
 pub const LONGEST: u32 = 262_144;
 
-// Where the link type stands in the header.
+// The place of the link type in the header.
 const LINK_TYPE_AT: usize = 20;
 // The link type of Ethernet.
 const ETHERNET: u32 = 1;
-// Where the captured length stands among a packet's numbers.
+// The place of the captured length among a packet's numbers.
 const CAPTURED_AT: usize = 8;
 
 /// The order of the octets of each number of a capture.
@@ -34,7 +33,7 @@ pub enum Order {
 pub enum CaptureFault {
     /// 1: there are fewer than the 24 octets of the header, or it begins with no magic.
     Magic,
-    /// 2: the link type is not that of Ethernet.
+    /// 2: the link type is not Ethernet.
     LinkType,
     /// 3: 1 to 15 octets are left, too few for a packet's numbers.
     Header,
@@ -72,21 +71,20 @@ impl CaptureFault {
     }
 }
 
-/// What stands in front of the octets that are left of a capture behind its header, or behind a whole
-/// packet.
+/// What the remaining octets of a capture begin with, after its header or after a whole packet.
 #[derive(Clone, Copy, Debug, PartialEq, Eq)]
 pub enum Front {
-    /// The end: nothing is left, and nothing comes.
+    /// The end: nothing is left, and nothing follows.
     End,
     /// A whole packet: 16 octets of numbers, and then this many.
     Whole(u32),
-    /// Octets that are refused, whatever comes behind them.
+    /// Octets that are refused, whatever follows them.
     Refused(CaptureFault),
-    /// Less than a packet: what comes behind decides.
+    /// Less than a packet: what follows decides.
     More,
 }
 
-/// Where a capture is refused, and why.
+/// The packet at which a capture is refused, and why.
 #[derive(Clone, Copy, Debug, PartialEq, Eq)]
 pub struct Refusal {
     /// The packet, counted from 1; 0 for the header.
@@ -95,7 +93,7 @@ pub struct Refusal {
     pub fault: CaptureFault,
 }
 
-// The order that the number of the first four octets, the highest first, stands for.
+// The order that the first four octets give; `magic` is their number, the highest octet first.
 fn order_by(magic: u32) -> Option<Order>
     ensures { result ≡ order_by magic }
 {
@@ -117,7 +115,8 @@ fn number_at(order: Order, octets: &[u8], at: usize) -> u32
     }
 }
 
-/// The order of all numbers of the capture that the octets begin; they are its first 24, or more.
+/// The order of all numbers of the capture that begins with these octets; they are its first 24, or
+/// more.
 pub fn header(octets: &[u8]) -> Result<Order, CaptureFault>
     ensures ok { (order : Order) → (result ≡ Ok order) ↔ HasHeader order octets.now }
     ensures refused { (fault : CaptureFault)
@@ -151,8 +150,8 @@ pub fn captured_len(order: Order, octets: &[u8]) -> u32
     number_at(order, octets, CAPTURED_AT)
 }
 
-/// What stands in front of the octets that are left behind the header or behind a whole packet.
-/// `ended` says that nothing comes behind them.
+/// What the remaining octets begin with, after the header or after a whole packet. `ended` says that
+/// nothing follows them.
 pub fn in_front(order: Order, octets: &[u8], ended: bool) -> Front
     ensures { (front : Front) → (result ≡ front) ↔ IsFront order ended octets.now front }
 {

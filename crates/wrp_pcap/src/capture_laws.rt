@@ -9,17 +9,17 @@ pub fn files_have_one_reading()
     ensures { FilesHaveOneReading }
 {}
 
-/// A capture is its header and its packets, one behind another, and nothing else.
+/// A capture is its header and its packets, one after another, and nothing else.
 pub fn captures_are_their_packets()
     ensures { CapturesAreTheirPackets }
 {}
 
-/// A header, its fault, whole packets and a packet that is too long stay, whatever comes behind.
+/// A header, its fault, whole packets and a packet that is too long stay, whatever follows.
 pub fn packets_stay()
     ensures { StayWhateverComes }
 {}
 
-/// A reading goes on behind the packets that were read.
+/// A reading goes on after the packets that were read.
 pub fn readings_go_on()
     ensures { ReadingsGoOn }
 {}

@@ -1,4 +1,4 @@
-//! The messages between one master and its slave, as far as a later WR_MODE_ON asks for them.
+//! The messages between one master and its slave, as far as a later WR_MODE_ON needs them.
 ghost use Rattle.std.specs.Prelude.{◌≡◌, []};
 ghost use Rattle.wrp_base.specs.declared.message.PortIdentity.{PortIdentity};
 ghost use Rattle.wrp_pcap.specs.Chain.{after_master, after_slave, begun_again, trail_of, followed, locked_behind, presented, verdict_behind};
@@ -6,7 +6,7 @@ ghost use Rattle.wrp_pcap.specs.Chain.{after_master, after_slave, begun_again, t
 use crate::Verdict8;
 use wrp_base::WrMsg;
 
-/// What stands behind the last message of one place of a handshake: the last message of the place below
+/// What leads up to the last message of one place of a handshake: the last message of the place below
 /// that was sent before it, and so on.
 #[derive(Clone, Copy, Debug, PartialEq, Eq)]
 pub(crate) enum Behind {
@@ -14,8 +14,8 @@ pub(crate) enum Behind {
     Missing(u8),
     /// There is one of each place.
     Whole {
-        /// The numbers of their packets, the last message first. Behind that of the SLAVE_PRESENT stand
-        /// zeros.
+        /// The numbers of their packets, the last message first. Zeros follow the number of the
+        /// SLAVE_PRESENT.
         numbers: [u32; 7],
         /// The first SLAVE_PRESENT since the LOCK.
         restart: Option<u32>,
@@ -23,7 +23,7 @@ pub(crate) enum Behind {
 }
 
 impl Behind {
-    // The next message of the handshake, behind these.
+    // The next message of the handshake, after these.
     fn followed(self, n: u32) -> Behind
         ensures { result ≡ followed n self }
     {
@@ -37,7 +37,7 @@ impl Behind {
         }
     }
 
-    // A LOCK behind the last SLAVE_PRESENT.
+    // A LOCK after the last SLAVE_PRESENT.
     fn locked(present: Option<u32>, n: u32) -> Behind
         ensures { result ≡ locked_behind n present }
     {
@@ -50,7 +50,7 @@ impl Behind {
         }
     }
 
-    // A SLAVE_PRESENT behind these.
+    // A SLAVE_PRESENT after these.
     fn begun_again(self, n: u32) -> Behind
         ensures { result ≡ begun_again n self }
     {
@@ -66,7 +66,7 @@ impl Behind {
         }
     }
 
-    // The verdict on a WR_MODE_ON behind these.
+    // The verdict on a WR_MODE_ON after these.
     fn verdict(self, n: u32) -> Verdict8
         ensures { result ≡ verdict_behind n self }
     {
@@ -88,7 +88,7 @@ impl Behind {
 }
 
 /// The messages between one master and its slave: of each place of a handshake the last one, with what
-/// stands behind it.
+/// leads up to it.
 #[derive(Clone, Copy, Debug, PartialEq, Eq)]
 pub(crate) struct Trail {
     /// The last SLAVE_PRESENT of the slave.

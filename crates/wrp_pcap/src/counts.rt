@@ -11,7 +11,7 @@ use std::alloc::AllocError;
 use wrp_records::append_words;
 
 /// How many packets there are, how many of them carry a message, no PTP frame, or a frame that is no
-/// message, and of how many the verdict `complete` is told.
+/// message, and for how many the verdict is `complete`.
 #[derive(Clone, Copy, Debug, PartialEq, Eq)]
 pub(crate) struct Counts {
     pub packets: u32,
@@ -35,7 +35,7 @@ impl Counts {
         }
     }
 
-    /// With one packet more, by what it carries and what is told of it.
+    /// With one more packet, by what it carries and the verdict on it.
     pub fn with(self, content: &Content, told: Option<Verdict8>) -> Counts
         requires { self.packets + 1 < 2 ^ 32 }
         ensures counts { (before : List Content) → AreCounts self before
@@ -64,7 +64,7 @@ impl Counts {
         }
     }
 
-    // Of how many packets the verdict `complete` is told, with this one.
+    // For how many packets the verdict is `complete`, with this one.
     fn complete_with(self, told: Option<Verdict8>) -> u32
         ensures { result ≡ (if is_complete told then min (self.complete + 1) (2 ^ 32 - 1) else self.complete) }
     {
@@ -74,8 +74,8 @@ impl Counts {
         }
     }
 
-    /// Appends the line behind the last packet. `AllocError` where there is no memory for it: the
-    /// text keeps its octets.
+    /// Appends the line after the last packet. `AllocError` if there is no memory for it; the text
+    /// keeps its octets.
     pub fn append(self, text: &mut Vec<u8>) -> Result<(), AllocError>
         ensures ok { (contents : List Content) → AreCounts self contents
             → OnOk result (text.new.items ≡ text.old.items ++ sum_line contents) }

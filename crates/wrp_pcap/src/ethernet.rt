@@ -7,9 +7,9 @@ use byteorder::{BigEndian, ByteOrder};
 use wrp_base::PtpMsg;
 use wrp_frame::{FrameFault, decode};
 
-// Behind the two addresses, where the EtherType stands, or a VLAN tag.
+// After the two addresses: the place of the EtherType, or of a VLAN tag.
 const TYPE_AT: usize = 12;
-// Behind the VLAN tag.
+// The place of the EtherType after a VLAN tag.
 const TAGGED_TYPE_AT: usize = 16;
 // The octets of an EtherType.
 const TYPE_LENGTH: usize = 2;
@@ -19,7 +19,7 @@ const VLAN_TAG: u16 = 0x8100;
 const PTP: u16 = 0x88F7;
 
 /// The PTP frame that a packet carries, which may have no octets, or more than a frame has room for;
-/// None exactly where its EtherType is another, or cut. One VLAN tag is passed over.
+/// None if and only if its EtherType is another one, or cut. One VLAN tag is skipped.
 pub fn frame_of(packet: &[u8]) -> Option<&[u8]>
     ensures { (frame : List ℕ)
         → (option_map (λ octets. octets.now) result ≡ Some frame) ↔ Carries packet.now frame }
@@ -38,8 +38,8 @@ pub fn frame_of(packet: &[u8]) -> Option<&[u8]>
     Some(&packet[at + TYPE_LENGTH..])
 }
 
-/// The message in the PTP frame that a packet carries, or the first fault of that frame; None exactly
-/// where the packet carries no PTP frame.
+/// The message in the PTP frame that a packet carries, or the first fault of that frame; None if and
+/// only if the packet carries no PTP frame.
 pub fn message_in(packet: &[u8]) -> Option<Result<PtpMsg, FrameFault>>
     ensures message { (message : PtpMsg)
         → (result ≡ Some (Ok message)) ↔ CarriesMessage packet.now message }

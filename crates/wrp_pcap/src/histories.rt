@@ -10,14 +10,14 @@ use wrp_base::LinkState::{
 };
 use wrp_base::{LinkState, Mark, WrMsg};
 
-/// A CALIBRATE that tells nothing.
+/// A CALIBRATE with contents 0.
 const CALIBRATE: WrMsg = WrMsg::Calibrate {
     pattern: 0,
     retry: 0,
     period: 0,
 };
 
-/// A CALIBRATED that tells nothing.
+/// A CALIBRATED with contents 0.
 const CALIBRATED: WrMsg = WrMsg::Calibrated { tx: 0, rx: 0 };
 
 // A change of state without a message.
@@ -75,8 +75,9 @@ fn master_marks(c: &[u32; 8]) -> ArrayVec<Mark, 8>
 }
 
 /// The marks of the slave and of the master in a handshake whose eight messages have these numbers, the
-/// oldest first: each change of state at the number of the message that it sends or that moves it, and
-/// numbers in the place of times. The numbers rise. What the messages tell besides their kinds is 0.
+/// oldest first: each change of state at the number of the message that it sends or that moves it, with
+/// numbers in place of times. The numbers rise. Apart from their kinds, the contents of the messages
+/// are 0.
 ///
 /// By these marks both ends came to WR_LINK_ON in the same handshake.
 pub fn marks(c: &[u32; 8]) -> (ArrayVec<Mark, 8>, ArrayVec<Mark, 8>)

@@ -7,13 +7,13 @@ ghost use Rattle.wrp_pcap.specs.InspectLaws.{OneIsDue, RefusalsStay, CompleteIsJ
 ghost use Rattle.wrp_pcap.specs.InspectLaws.{PacketsAreLimited};
 ghost use Rattle.wrp_pcap.specs.WorkedInspection.{WorkedInspection};
 
-/// Of each input one status and one text are due.
+/// For each input one status and one text are expected.
 pub fn one_is_due()
     ensures { OneIsDue }
 {}
 
-/// What is due where a whole header is refused, or a packet that is too long or one too many, is due
-/// however the input goes on.
+/// If a whole header is refused, or a packet that is too long or one too many, what is expected stays
+/// expected however the input goes on.
 pub fn refusals_stay()
     ensures { RefusalsStay }
 {}
@@ -36,26 +36,26 @@ pub fn complete_names_handshake()
     ensures { CompleteNamesHandshake }
 {}
 
-/// Each verdict that is printed is the one that is due after the messages of the packets before it, and each
-/// WR_MODE_ON has a verdict.
+/// Each verdict that is printed is the one expected after the messages of the packets before it, and
+/// each WR_MODE_ON has a verdict.
 pub fn verdicts_are_due()
     ensures { VerdictsAreDue }
 {}
 
-/// Whatever the octets are, each verdict on one of the packets that they begin with is the one that is due,
-/// and each `complete` names eight packets of theirs that carry the messages of one handshake.
+/// Whatever the octets are, each verdict on one of the packets that they begin with is the expected
+/// one, and each `complete` names eight of their packets that carry the messages of one handshake.
 pub fn handshakes_are_judged()
     ensures { (input : List ℕ) → JudgesHandshakes input }
 {}
 
-/// The lines that an inspection leaves where its source failed are those of the first packets, however the
-/// input goes on.
+/// If the source failed, the lines that an inspection leaves are the lines of the first packets,
+/// however the input goes on.
 pub fn cuts_are_first()
     ensures { CutsAreFirst }
 {}
 
-/// A capture of one packet that is inspected: what stands when it was read whole, when the source failed, when
-/// there was no memory, and when a write failed.
+/// An inspected capture of one packet: what is left when it was read whole, when the source failed,
+/// when there was no memory, and when a write failed.
 pub fn worked_inspection()
     ensures { WorkedInspection }
 {}

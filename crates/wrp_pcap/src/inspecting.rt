@@ -28,7 +28,7 @@ use wrp_records::{Status, append_large, append_words, write_all};
 // The number that no packet may have.
 const TOO_GREAT: u64 = 4_294_967_296;
 
-// Appends the line that names the refusal of a capture. Where there is no memory for it, the text keeps
+// Appends the line that names the refusal of a capture. If there is no memory for it, the text keeps
 // its octets.
 fn append_bad_capture(
     text: &mut Vec<u8>,
@@ -61,7 +61,7 @@ fn append_refusal(text: &mut Vec<u8>, packet: u32, number: u8, name: &str) -> Re
     )
 }
 
-// Names the fault of the packet behind so many.
+// Names the fault of the packet after this many packets.
 fn tell_fault(waiting: &mut Vec<u8>, packets: u32, fault: CaptureFault) -> Status
     requires { packets + 1 < 2 ^ 32 }
     ensures told { result ≡ Status.BadCapture → waiting.new.items ≡ waiting.old.items
@@ -88,7 +88,7 @@ fn tell_large(alloc: Global, waiting: &mut Vec<u8>) -> Status
     }
 }
 
-// Names what stops the inspection before the end of the input, behind so many packets.
+// Names what stops the inspection before the end of the input, after this many packets.
 fn tell_stop(alloc: Global, waiting: &mut Vec<u8>, packets: u32, stop: Stop) -> Status
     requires { stop ≡ Stop.Long → packets + 1 < 2 ^ 32 }
     ensures tells { (order : Order) (rest : List ℕ) (contents : List Content)
@@ -116,8 +116,8 @@ fn tell_sum(inspection: &Inspection, waiting: &mut Vec<u8>) -> Status
     }
 }
 
-// The fault of octets that are less than a packet, where the input ended behind them; None where there
-// are none.
+// The fault of octets that are less than a packet, if the input ended after them; None if there are
+// none.
 fn fault_at_end(order: Order, held: &[u8]) -> Option<CaptureFault>
     requires { IsCut order held.now }
     ensures { MatchOption result (held.now ≡ []) (λ fault. HasPacketFault fault order held.now) }
@@ -130,7 +130,7 @@ fn fault_at_end(order: Order, held: &[u8]) -> Option<CaptureFault>
     }
 }
 
-// Appends what is written last where the input ended behind the octets that are held, which are no whole
+// Appends what is written last if the input ended after the octets that are held, which are no whole
 // packet.
 fn tell_end(order: Order, held: &[u8], inspection: &Inspection, waiting: &mut Vec<u8>) -> Status
     requires more { Stops order (packets_taken inspection.now) held.now Stop.More }
@@ -189,7 +189,7 @@ fn fill_header<S: Source>(pieces: &mut Pieces, source: &mut S) -> Refilled
     }
 }
 
-// Inspects what stands behind the header: the octets that are held, and what the source has left.
+// Inspects what follows the header: the octets that are held, and what the source has left.
 fn inspect_packets<S: Source, K: Sink>(
     alloc: Global,
     order: Order,

@@ -12,7 +12,7 @@ use crate::pairs::Pairs;
 use crate::{Content, Verdict8};
 use std::alloc::{AllocError, Global};
 
-/// The packets of a capture that were taken: the messages that a later WR_MODE_ON asks for, and counts.
+/// The packets of a capture that were taken: the messages that a later WR_MODE_ON needs, and counts.
 #[derive(Debug, Drop)]
 pub struct Inspection {
     pairs: Pairs,
@@ -40,8 +40,8 @@ impl Inspection {
         self.counts.packets
     }
 
-    /// Takes the octets of the next packet, and appends its lines. An error means that there was no
-    /// memory; the packet is not taken then, and the text is as it was.
+    /// Takes the octets of the next packet, and appends its lines. An error means that memory ran out;
+    /// the packet is then not taken, and the text is as it was.
     pub fn take_packet(&mut self, packet: &[u8], text: &mut Vec<u8>) -> Result<(), AllocError>
         requires { packets_taken self.old + 1 < 2 ^ 32 }
         ensures taken { IsOk result
@@ -71,7 +71,7 @@ impl Inspection {
         }
     }
 
-    // What is told of what the next packet carries.
+    // The verdict on what the next packet carries, if there is one.
     fn told(&self, number: u32, content: &Content) -> Option<Verdict8>
         ensures { (before : List Content) → HasTaken self.now before
             → result ≡ told_of number (messages_of before) content.now }
@@ -96,8 +96,8 @@ impl Inspection {
         }
     }
 
-    /// Appends the line behind the last packet. `AllocError` where there is no memory for it: the
-    /// text keeps its octets.
+    /// Appends the line after the last packet. `AllocError` if there is no memory for it; the text
+    /// keeps its octets.
     pub fn append_sum(&self, text: &mut Vec<u8>) -> Result<(), AllocError>
         ensures ok { (contents : List Content) → HasTaken self.now contents
             → OnOk result (text.new.items ≡ text.old.items ++ sum_line contents) }

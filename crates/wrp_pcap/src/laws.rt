@@ -4,9 +4,9 @@ ghost use Rattle.wrp_pcap.specs.Laws.{CertificateIsDue, CompleteRises};
 ghost use Rattle.wrp_pcap.specs.Worked.{WorkedCertificates};
 ghost use Rattle.wrp_pcap.specs.WorkedMarks.{MarksOfEight};
 
-/// The verdict on a WR_MODE_ON, without the recursion that finds it: each message is the last of its kind
-/// before the next one of the handshake; the greatest place of which there is none is missing; and the
-/// first SLAVE_PRESENT behind the LOCK began the handshake again.
+/// The verdict on a WR_MODE_ON, without the recursion that finds it: each message is the last of its
+/// kind before the next one of the handshake; the missing place is the greatest of which there is no
+/// message; and the first SLAVE_PRESENT after the LOCK began the handshake again.
 pub fn certificate_is_due()
     ensures { CertificateIsDue }
 {}
@@ -16,7 +16,7 @@ pub fn complete_rises()
     ensures { CompleteRises }
 {}
 
-/// What is told in certain captures.
+/// The verdicts in certain captures.
 pub fn worked_certificates()
     ensures { WorkedCertificates }
 {}

@@ -1,7 +1,7 @@
-//! Captures of a link as the classic libpcap file format writes them, and the handshakes in them: the header,
-//! the packets that follow one another, what a packet carries, and of each WR_MODE_ON whether the messages of
-//! one handshake stand behind it. Only captures of Ethernet are read, and no packet of more than 262,144
-//! octets; that, and what counts as one handshake, is this project's profile.
+//! Captures of a link as the classic libpcap file format writes them, and the handshakes in them: the
+//! header, the packets that follow one another, what a packet carries, and for each WR_MODE_ON whether
+//! the messages of one handshake precede it. Only captures of Ethernet are read, and no packet of more
+//! than 262,144 octets; that, and what counts as one handshake, is this project's profile.
 #![tactic(auto)]
 
 mod capture;

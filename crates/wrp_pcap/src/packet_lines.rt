@@ -1,5 +1,5 @@
-//! The lines of what the packets of a capture carry. Where there is no memory for a line, a part of it may
-//! stand.
+//! The lines of what the packets of a capture carry. If there is no memory for a line, a part of it may
+//! have been appended.
 ghost use Rattle.std.specs.Prelude.{◌≡◌, ◌++◌, ◌∷◌, [], map, codes, OnOk};
 ghost use Rattle.std.specs.Fmt.{decimal};
 ghost use Rattle.byteorder.specs.Endian.{big_bytes};
@@ -144,7 +144,7 @@ fn append_link(
     Ok(())
 }
 
-// Appends the line of what is told of a message, if anything is.
+// Appends the line of the verdict on a message, if there is one.
 fn append_told(
     text: &mut Vec<u8>,
     number: u32,
@@ -162,7 +162,7 @@ fn append_told(
     }
 }
 
-/// Appends the lines of what the packet with this number carries, with what is told of it.
+/// Appends the lines of what the packet with this number carries, with the verdict on it.
 pub(crate) fn append_content(
     text: &mut Vec<u8>,
     number: u32,

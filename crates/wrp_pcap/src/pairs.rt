@@ -39,7 +39,7 @@ fn is_slaves(message: WrMsg) -> bool
     }
 }
 
-/// The messages of a capture, as far as a later WR_MODE_ON asks for them: one running chain for each
+/// The messages of a capture, as far as a later WR_MODE_ON needs them: one running chain for each
 /// master and slave of which a message came, and each place of a handshake.
 #[derive(Debug, Drop)]
 pub struct Pairs {
@@ -56,19 +56,20 @@ impl Pairs {
         }
     }
 
-    /// Takes the message of the packet with the number `n`, and tells of a WR_MODE_ON its verdict. The
-    /// number is to be above every earlier one. An error means that there was no memory; nothing has
-    /// changed then, and the message may be taken again.
+    /// Takes the message of the packet with the number `n`, and returns the verdict if it is a
+    /// WR_MODE_ON. The number has to be above every earlier one. An error means that memory ran out;
+    /// nothing has changed then, and the message may be taken again.
     pub fn take(&mut self, n: u32, m: &PtpMsg) -> Result<Option<Verdict8>, AllocError>
-        // A WR_MODE_ON has the verdict that is due behind the messages before it, any other message none.
+        // A WR_MODE_ON has the verdict expected after the messages before it; any other message has
+        // none.
         ensures verdict { (before : List Captured) → StandsFor self.old before →
             IfOk result (λ told. told ≡ verdict_of (record { number = n; message = m.now }) before) }
 
-        // The message comes in front of those before.
+        // The message is put in front of the earlier ones.
         ensures adds { (before : List Captured) → StandsFor self.old before → IsAbove n before → IsOk result →
             StandsFor self.new (record { number = n; message = m.now } ∷ before) }
 
-        // Without memory nothing changes.
+        // If memory runs out, nothing changes.
         ensures refused { (before : List Captured) → StandsFor self.old before → IsErr result →
             StandsFor self.new before }
 
@@ -80,7 +81,7 @@ impl Pairs {
         Ok(told)
     }
 
-    /// What is told of a message.
+    /// The verdict on a message, if there is one.
     pub(crate) fn told(&self, n: u32, m: &PtpMsg) -> Option<Verdict8>
         ensures { result ≡ told_at self.now n m.now.head.source m.now.body }
     {
@@ -118,8 +119,8 @@ impl Pairs {
         }
     }
 
-    // Keeps a White Rabbit message: first room for the chains that it changes, then the changes, which
-    // need no more.
+    // Keeps a White Rabbit message: first makes room for the chains that it changes, then makes the
+    // changes, which need no more room.
     fn hear(
         &mut self,
         n: u32,
@@ -158,7 +159,7 @@ impl Pairs {
         Ok(())
     }
 
-    // Keeps a message as that of a master.
+    // Keeps a message as the message of a master.
     fn hear_master(&mut self, n: u32, source: PortIdentity, target: PortIdentity, message: WrMsg)
         requires { is_masters message ≡ true → HasRoom source target self.old }
         ensures chains { HeardAsMaster source target message n self.old self.new }
@@ -170,7 +171,7 @@ impl Pairs {
         }
     }
 
-    // Keeps a message as that of a slave.
+    // Keeps a message as the message of a slave.
     fn hear_slave(&mut self, n: u32, source: PortIdentity, target: PortIdentity, message: WrMsg)
         requires { is_slaves message ≡ true → HasRoom target source self.old }
         ensures { HeardAsSlave source target message n self.old self.new }
@@ -181,7 +182,7 @@ impl Pairs {
         }
     }
 
-    // Makes room for a chain, which is that of no messages as long as nothing is written.
+    // Makes room for a chain, which is the chain of no messages until one is written.
     fn open(&mut self, master: PortIdentity, slave: PortIdentity) -> Result<(), AllocError>
         ensures chains { Opened self.old self.new }
         ensures room { IsOk result → HasRoom master slave self.new }

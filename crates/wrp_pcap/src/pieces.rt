@@ -1,4 +1,4 @@
-//! The octets of an input, taken in pieces from a source, as far as they are not passed yet.
+//! The octets of an input, taken in pieces from a source, that are not passed yet.
 ghost use Rattle.std.specs.Prelude.{◌≡◌, ◌≤◌, [], length, drop};
 ghost use Rattle.wrp_io.specs.Faults.{Rose};
 ghost use Rattle.wrp_pcap.specs.Inspecting.{Refills};
@@ -13,13 +13,13 @@ const PIECE: usize = 65_536;
 /// What asking for a piece gives.
 #[derive(Clone, Copy)]
 pub(crate) enum Refilled {
-    /// A piece is held behind what was held.
+    /// A piece is held after what was held.
     Piece,
     /// The input ended.
     End,
     /// The source failed.
     Failed,
-    /// There was no memory.
+    /// Memory ran out.
     Memory,
 }
 
@@ -60,7 +60,7 @@ impl Pieces {
         &self.octets[self.at..]
     }
 
-    /// Passes so many octets of what is held.
+    /// Passes this many octets of what is held.
     pub fn pass(&mut self, size: usize)
         requires { size ≤ length self.old }
         ensures { self.new ≡ drop size self.old }

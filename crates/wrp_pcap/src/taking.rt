@@ -1,4 +1,4 @@
-//! The packets that are held of a capture, taken one after the other.
+//! The held packets of a capture, taken one after the other.
 ghost use Rattle.std.specs.Prelude.{◌≡◌, ℕ, ◌+◌, ◌^◌, ◌<◌, ◌≤◌, true, List, length, IsOk};
 ghost use Rattle.wrp_pcap.specs.Capture.{IsWhole};
 ghost use Rattle.wrp_pcap.specs.InspectionAt.{packets_taken};
@@ -9,7 +9,7 @@ use crate::inspection::Inspection;
 use crate::pieces::Pieces;
 use std::alloc::AllocError;
 
-// What comes next of the octets that are held.
+// What comes next in the octets that are held.
 #[derive(Clone, Copy)]
 enum Step {
     // A whole packet.
@@ -22,7 +22,7 @@ enum Step {
     TooLarge,
 }
 
-/// Why no more of the octets that are held is taken.
+/// Why no more of the held octets is taken.
 #[derive(Clone, Copy)]
 pub(crate) enum Stop {
     /// Less than a packet is left.
@@ -31,11 +31,11 @@ pub(crate) enum Stop {
     Long,
     /// The next packet has too great a number.
     TooLarge,
-    /// There was no memory.
+    /// Memory ran out.
     Memory,
 }
 
-// What comes next behind so many packets.
+// What comes next after this many packets.
 fn next_step(order: Order, held: &[u8], packets: u32) -> Step
     ensures { IsNextStep order packets held.now result }
 {
@@ -66,8 +66,8 @@ pub(crate) fn is_more(stop: Stop) -> bool
     }
 }
 
-// Takes the packet that stands in front of the octets that are held, and appends its lines to what
-// waits. Where there is no memory nothing is taken.
+// Takes the packet with which the held octets begin, and appends its lines to what waits. If memory
+// runs out, nothing is taken.
 fn take_first(
     order: Order,
     pieces: &mut Pieces,

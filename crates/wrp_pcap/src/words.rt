@@ -20,8 +20,8 @@ pub fn kind_word(message: &PtpMsg) -> &'static str
     }
 }
 
-/// The word of the White Rabbit message that a Signaling carries; None exactly where it carries none,
-/// and of every other kind.
+/// The word of the White Rabbit message that a Signaling carries; None if and only if it carries none,
+/// or the message is of another kind.
 pub fn message_word(message: &PtpMsg) -> Option<&'static str>
     ensures { option_map (λ word. word.now) result ≡ message_word message.now.body }
 {

@@ -77,7 +77,7 @@ Adds-measured told ring new last ticks est base round old is pushed based set t1
       ticks_are = known.ticks_are;
     }
 
--- the report of what is kept is the report that is due
+-- the report of what is kept is the expected report
 pub report_of-is : (set : PlainSet) (plain : PlainAt) (calls : List Call) → StandsFor set plain calls →
     least_report (map (report_at plain.set) (marks_at plain)) ≡ report_of set calls
 report_of-is set plain calls stands =

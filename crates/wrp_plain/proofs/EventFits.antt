@@ -1,4 +1,4 @@
--- What a line behind the first says is an event whose fields are in their ranges.
+-- What a line after the first says is an event whose fields are in their ranges.
 use Rattle.std.proofs.Common.{◌≡◌, ℕ, ℤ, pos, neg_ℤ, ◌≤◌, ◌^◌, ◌==◌, ◌≤ℤ◌, List, length, Option, None, Some, Ok, subst, arith}
 use Rattle.std.specs.Prelude.{unsigned_abs}
 use Rattle.std.proofs.lemmas.Int.{ints}

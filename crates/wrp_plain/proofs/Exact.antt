@@ -57,7 +57,7 @@ find_splits : {X : Type 0} (p : X → Bool) (xs : List X) (x : X) → find p xs 
 find_splits p [] x e = absurd (cc e)
 find_splits p (y ∷ ys) x e = splits_at p y ys x (find_splits p ys x) (p y) refl e
 
--- a report that is not the least of those of which this one is has a greater bound
+-- a report that is not the least has a greater bound than one that is
 greater : (reports : List PlainReport) (least r : PlainReport) → is_least reports least ≡ true → is_least reports r ≡ false →
     (test : Bool) → int_lt least.bound r.bound ≡ test → least.bound <ℤ r.bound
 greater reports least r is above true e = grind (arith, ints, e)
@@ -110,7 +110,7 @@ measurements_are_exact = record {
 
 -- ---- events
 
--- nothing is told only where a test fails
+-- nothing is reported only if a test fails
 from_none : {X : Type 0} (b : Bool) (x : X) → cond b (Some x) None ≡ None → b ≡ false
 from_none true x e = absurd (cc e)
 from_none false x e = refl

@@ -1,4 +1,4 @@
--- What each event adds to the list that a world stands for.
+-- What each event adds to the list that a world represents.
 use Rattle.std.proofs.Common.{◌≡◌, ℕ, ℤ, pos, ◌+◌, ◌+ℤ◌, unsigned_abs, List, ◌∷◌, length, Option, Some, None, ap, ◌∙◌, sym, subst, arith}
 use Rattle.wrp_plain.specs.declared.settings.PlainSet.{PlainSet}
 use Rattle.wrp_plain.specs.declared.settings.PlainReport.{PlainReport}

@@ -30,7 +30,7 @@ below-none : (n : ℕ) (shown bound : ℤ) → below n shown bound ≡ None → 
 below-none n shown bound e =
     not_below shown bound (not_told (int_lt shown bound) (record { premise = n; shown = shown; bound = bound }) e)
 
--- where none is broken the first is not, nor is a later one
+-- if none is broken, the first is not, nor is a later one
 head_none : (o : Option PlainBroken) (later : List (Option PlainBroken)) → first_broken (o ∷ later) ≡ None → o ≡ None
 head_none None later e = refl
 head_none (Some broken) later e = e

@@ -50,7 +50,7 @@ find_agree : {X : Type 0} (p q : X → Bool) → ((x : X) → p x ≡ q x) → (
 find_agree p q agree [] = refl
 find_agree p q agree (x ∷ xs) = ap₂ (λ (b : Bool) (rest : Option _). cond b (Some x) rest) (agree x) (find_agree p q agree xs)
 
--- what is least to x among these is to b, where x is not below b
+-- what is least to x among these is least to b too, if x is not below b
 pub least_chain : (b x : ℤ) → int_lt x b ≡ false → (rs : List PlainReport) →
     list_all (λ s. not (int_lt s.bound x)) rs ≡ true → list_all (λ s. not (int_lt s.bound b)) rs ≡ true
 least_chain b x h [] all = refl
@@ -72,7 +72,7 @@ taken : {X : Type 0} (b : Bool) (x : X) (rest : Option X) → b ≡ false → co
 taken true x rest h = absurd (cc h)
 taken false x rest h = refl
 
--- a lesser bound behind: the first one is not the least
+-- a lesser bound follows: the first one is not the least
 step_less : (b x : PlainReport) (rs : List PlainReport) → int_lt x.bound b.bound ≡ true →
     find (is_least (x ∷ rs)) (x ∷ rs) ≡ find (is_least (b ∷ (x ∷ rs))) (b ∷ (x ∷ rs))
 step_less b x rs less =
@@ -82,7 +82,7 @@ step_less b x rs less =
     (λ r. and_second (not (int_lt b.bound r.bound)) (is_least (x ∷ rs) r) (λ least. not_above b.bound x.bound r.bound less (left_of _ _ least)))
     (x ∷ rs))
 
--- no lesser bound behind: the second one is never the first of the least
+-- no lesser bound follows: the second one is never the first of the least
 step_not_less : (b x : PlainReport) (rs : List PlainReport) → int_lt x.bound b.bound ≡ false →
     find (is_least (b ∷ rs)) (b ∷ rs) ≡ find (is_least (b ∷ (x ∷ rs))) (b ∷ (x ∷ rs))
 step_not_less b x rs less =

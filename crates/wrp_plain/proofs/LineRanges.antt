@@ -18,7 +18,7 @@ use Rattle.wrp_plain.specs.Measurement.{HasRanges}
 abbrev pub read_as : {A : Type 0} → A → Result A TraceFault
 read_as x = Ok x
 
--- of one reading there is one value
+-- one reading has one value
 pub ok_same : {A : Type 0} (x y : A) → read_as x ≡ read_as y → x ≡ y
 ok_same x y e = cc
 
@@ -28,7 +28,7 @@ pub record Both {A B : Type 0} (read : Result A TraceFault) (next : A → Result
   pub is : read ≡ Ok first
   pub rest : next first ≡ Ok value
 
--- and so it did where the whole gave one
+-- and so it did if the whole gave one
 pub both : {A B : Type 0} (read : Result A TraceFault) (next : A → Result B TraceFault) (value : B) → (read >>= next) ≡ Ok value → Both read next value
 both (Ok x) next value e = record { first = x; is = refl; rest = e }
 both (Err fault) next value e = absurd (cc)

@@ -1,4 +1,4 @@
--- Behind records each line is a record or is refused.
+-- After records each line is a record or is refused.
 use Rattle.std.proofs.Common.{◌≡◌, ◌⊎◌, inl, inr, refl, ap, ℕ, ◌+◌, List, [], ◌∷◌, ◌++◌, length, Option, None, Some, Result, Ok, Err}
 use Rattle.wrp_base.specs.declared.fault.TraceFault.{TraceFault}
 use Rattle.wrp_records.specs.declared.machine.Refusal.{Refusal}
@@ -14,7 +14,7 @@ use Rattle.wrp_plain.specs.Premises.{broken_after}
 use Rattle.wrp_plain.proofs.EventFits.{event_fits}
 use Rattle.wrp_plain.proofs.LinesOnce.{course_more}
 
--- a line more is a record, and writes this
+-- one more line is a record, and writes this
 abbrev Goes : List (List ℕ) → List ℕ → List ℕ → Type 0
 Goes lines line before = (text : List ℕ) × PlainAccepts (lines ++ line ∷ []) (before ++ text)
 

@@ -19,7 +19,7 @@ none_ends : {X : Type 0} (xs : List X) (x : X) → xs ++ x ∷ [] ≡ [] → ⊥
 none_ends [] x e = cc
 none_ends (y ∷ xs) x e = cc
 
--- of a course the last line says the newest event, and those before it are a course
+-- the last line of a course says the newest event, and the lines before it are a course
 record Newest (first : List ℕ) (lines : List (List ℕ)) (line : List ℕ) (start : PlainStart) : Type 0 where
   newest : PlainEvent
   before : List PlainEvent
@@ -50,7 +50,7 @@ first_lines first front (line ∷ back) start events course =
     let n : Newest first (front ++ reverse back) line start = newest_of first (front ++ reverse back) line start events (subst (λ (ls : List (List ℕ)). IsPlainRun first ls start events) split course) in
     first_lines first front back start n.before n.course
 
--- a line among those of a course
+-- a line among the lines of a course
 among : (first : List ℕ) (before behind : List (List ℕ)) (line : List ℕ) (start : PlainStart) (events : List PlainEvent) → IsPlainRun first (before ++ line ∷ behind) start events → Newest first before line start
 among first before behind line start events course =
     let older = first_lines first (before ++ line ∷ []) (reverse behind) start events
@@ -68,7 +68,7 @@ one_text (first ∷ lines) t u p q =
 
 -- One refusal
 
--- an event is the one that a line says, and breaks the same premise behind the same lines
+-- an event is the one that a line says, and breaks the same premise after the same lines
 same_broken : (first : List ℕ) (lines : List (List ℕ)) (line : List ℕ) (s t : PlainStart) (a b : List PlainEvent) (x y : PlainEvent) → IsPlainRun first lines s a → IsPlainRun first lines t b →
     event_read line ≡ Ok x → event_read line ≡ Ok y → broken_after s.set s.off a x ≡ broken_after t.set t.off b y
 same_broken first lines line s t a b x y p q h k =

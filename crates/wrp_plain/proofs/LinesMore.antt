@@ -1,4 +1,4 @@
--- What a machine of the lines stands for with a line more.
+-- What a machine of the lines represents with one more line.
 use Rattle.std.proofs.Common.{◌≡◌, ◌∙◌, sym, ap, ap₂, subst, length, ◌+◌, ℕ, ℤ, Result, Ok, Err, IfOk, Some, None, Option, List, [], ◌∷◌, ◌++◌}
 use Rattle.wrp_base.specs.declared.fault.TraceFault.{TraceFault}
 use Rattle.wrp_records.specs.declared.machine.Refusal.{Refusal}
@@ -17,7 +17,7 @@ use Rattle.wrp_plain.specs.LineText.{broken_line, event_text, events_text}
 use Rattle.wrp_plain.specs.LinesHeld.{Happens, HasRun, HasTakenBy, HasTakenSo}
 use Rattle.wrp_plain.proofs.LinesOnce.{course_more, one_course}
 
--- the text of the events before is that of the course
+-- the text of the events before is the text of the course
 earlier_text : (first : List ℕ) (lines : List (List ℕ)) (start : PlainStart) (events : List PlainEvent) (before : List ℕ) → IsPlainRun first lines start events → PlainAccepts (first ∷ lines) before →
     before ≡ events_text start.set start.off events
 earlier_text first lines start events before course accepted =

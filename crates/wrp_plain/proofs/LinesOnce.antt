@@ -1,4 +1,4 @@
--- Lines are one course: they say one start and one list of events; and one more line says one event more.
+-- Lines are one course: they say one start and one list of events; and one more line says one more event.
 use Rattle.std.proofs.Common.{◌≡◌, ◌∙◌, refl, sym, ap, ap₂, ℕ, Result, Ok, List, [], ◌∷◌, ◌++◌, map, reverse}
 use Rattle.std.proofs.lemmas.List.{map-append, reverse-append, reverse-reverse}
 use Rattle.wrp_base.specs.declared.fault.TraceFault.{TraceFault}
@@ -12,7 +12,7 @@ use Rattle.wrp_plain.specs.Premises.{Accepts}
 abbrev pub read : PlainEvent → Result PlainEvent TraceFault
 read event = Ok event
 
--- of the events as they came the newest is the last
+-- in the order in which the events came, the newest is the last
 pub turned : (event : PlainEvent) (events : List PlainEvent) → map read (reverse (event ∷ events)) ≡ map read (reverse events) ++ read event ∷ []
 turned event events = ap (map read) (reverse-append (event ∷ []) events) ∙ map-append read (reverse events) (event ∷ [])
 
@@ -45,7 +45,7 @@ one_course first lines s t a b p q =
     let start : s ≡ t = cc in
     (start, one_list lines a b p.are q.are)
 
--- a line more says an event more
+-- one more line says one more event
 pub course_more : (first : List ℕ) (lines : List (List ℕ)) (start : PlainStart) (events : List PlainEvent) (line : List ℕ) (event : PlainEvent) → IsPlainRun first lines start events → event_read line ≡ Ok event →
     Accepts start.set start.off (event ∷ events) → IsPlainRun first (lines ++ line ∷ []) start (event ∷ events)
 course_more first lines start events line event course is kept = record {

@@ -1,4 +1,4 @@
--- The lines that are written of the events that records say are true.
+-- The lines that are written for the events that records say are true.
 use Rattle.std.proofs.Common.{◌≡◌, refl, ap, sym, subst, append_assoc, append-nil, ℕ, ℤ, pos, Bool, true, false, if◌then◌else◌, Option, None, Some, List, [], ◌∷◌, ◌++◌, codes, arith}
 use Rattle.std.specs.Prelude.{IfSome}
 use Rattle.std.specs.Fmt.{decimal, signed_decimal}
@@ -21,7 +21,7 @@ use Rattle.wrp_records.proofs.WordLemmas.{SameWord, decimal_word, first_word, he
 use Rattle.wrp_plain.proofs.LineWords.{digits_are_word}
 use Rattle.wrp_plain.proofs.Worth.{tells_truth}
 
--- what tells a report in a line, behind its first word
+-- what says a report in a line, after its first word
 abbrev TrueOff : List ℕ → List ℕ
 TrueOff off = codes "true" ++ 32 ∷ (off ++ 10 ∷ [])
 

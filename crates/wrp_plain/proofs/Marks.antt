@@ -1,4 +1,4 @@
--- Ticks and commands move what the measurements stand for.
+-- Ticks and commands change what the measurements mean.
 use Rattle.std.proofs.Common.{◌≡◌, ℕ, zero, suc, ℤ, ◌+◌, ◌-◌, ◌≤◌, ◌+ℤ◌, List, [], ◌∷◌, map, take, refl, ap, ap₂, ◌∙◌, arith}
 use Rattle.std.proofs.lemmas.Int.{ints}
 use Rattle.wrp_plain.specs.declared.settings.PlainSet.{PlainSet}

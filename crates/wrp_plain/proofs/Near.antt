@@ -47,7 +47,7 @@ near-pass set off since dt drift keeps mark is = record {
 one_more : (ticks dmax since : ℕ) → since ≤ dmax → ticks * dmax + since ≤ (ticks + 1) * dmax
 one_more ticks dmax since h = grind arith
 
--- by the next tick the rate gives no more than for one tick more
+-- by the next tick the rate gives no more than for one more tick
 pub by_next : (rate ticks dmax since more : ℕ) → since ≤ dmax → more * 10 ^ 12 ≤ rate * (ticks * dmax + since) →
     more * 10 ^ 12 ≤ rate * ((ticks + 1) * dmax)
 by_next rate ticks dmax since more h slow =
@@ -125,7 +125,7 @@ since_small set off (Pass dt drift ∷ events) (fields, kept, before) =
 since_small set off (Tick ∷ events) accepted = omega arith
 since_small set off (Exch span dms dsm o2 o3 t ∷ events) (fields, kept, before) = since_small set off events before
 
--- what the servo was told with an event is near the true offset before the command
+-- what the servo was given with an event is near the true offset before the command
 told_near : (set : PlainSet) (off : ℤ) (events : List PlainEvent) → Accepts set off events →
     AreNear set (true_offset set off events) (time_since_tick events) (standings set (calls_of set events)) →
     (event : PlainEvent) → HasFields event → broken_after set off events event ≡ None →

@@ -1,4 +1,4 @@
--- Each line that is due for an input is true where it reports.
+-- Each line that is expected for an input is true if it reports.
 use Rattle.std.proofs.Common.{◌≡◌, refl, sym, subst, append_assoc, append-nil, inl, inr, ℕ, ℤ, ◌+◌, ◌==◌, List, [], ◌∷◌, ◌++◌, codes, length, map, Option, None, Some}
 use Rattle.std.specs.Prelude.{IfSome}
 use Rattle.std.specs.Fmt.{decimal, signed_decimal}
@@ -42,7 +42,7 @@ events_in_front set off (event ∷ before) rest true_ behind =
     (events_in_front set off before (event_text set off before event ++ rest) true_.1
     (seen_in_front IsAny (tick_count (event ∷ before)) (seen_of set off before event) rest true_.0.tells.within (any_so (seen_of set off before event).report) behind))
 
--- so are those of records
+-- so are the lines of records
 records_in_front : (lines : List (List ℕ)) (written rest : List ℕ) → PlainAccepts lines written → AllAreWithin rest → AllAreWithin (written ++ rest)
 records_in_front [] written rest accepted behind = subst (λ (l : List ℕ). AllAreWithin (l ++ rest)) (sym accepted) behind
 records_in_front (first ∷ lines) written rest accepted behind =
@@ -51,7 +51,7 @@ records_in_front (first ∷ lines) written rest accepted behind =
 
 -- What names a refusal
 
--- a line that stands alone
+-- a line by itself
 alone : (line : List ℕ) → IsWhole line → Says IsAny line → AllAreWithin line
 alone line whole says = subst AllAreWithin (append-nil line) (line_in_front (Says IsAny) line [] whole says tt)
 

@@ -1,4 +1,4 @@
--- The lines of events are those of each event, one after the other, so the line of each report is among them.
+-- The lines of events are the lines of each event, one after the other, so the line of each report is among them.
 use Rattle.std.proofs.Common.{◌≡◌, ◌∙◌, refl, ap, sym, subst, append_assoc, append-nil, ℕ, ℤ, pos, Bool, true, false, if◌then◌else◌, Option, None, Some, List, [], ◌∷◌, ◌++◌, codes, arith}
 use Rattle.std.specs.Fmt.{decimal, signed_decimal}
 use Rattle.std.specs.List.{Contains}

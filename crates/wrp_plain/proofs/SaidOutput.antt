@@ -1,4 +1,4 @@
--- What is due for an input has such lines, wherever it ends.
+-- What is expected for an input has such lines, wherever it ends.
 use Rattle.std.proofs.Common.{◌≡◌, ◌∙◌, ap, sym, subst, refl, append-nil, inl, inr, ℕ, ℤ, pos, neg_ℤ, ◌+◌, ◌≤ℤ◌, ◌+ℤ◌, ◌-ℤ◌, unsigned_abs, List, [], ◌∷◌, ◌++◌, length, map, codes, arith}
 use Rattle.std.proofs.lemmas.Int.{ints}
 use Rattle.std.proofs.lemmas.List.{length-map}

@@ -26,7 +26,7 @@ use Rattle.wrp_plain.proofs.Worth.{some_kept, tells_truth}
 abbrev pub said_one : ℕ → PlainReport → ℤ → ℤ → Said
 said_one tick report off by = record { tick = tick; report = report; off = off; by = by }
 
--- what is said of what an event gives: a report, if one is due
+-- what is said for what an event gives: a report, if one is expected
 abbrev pub said_seen : ℕ → Option PlainReport → ℤ → ℤ → List Said
 said_seen tick None off by = []
 said_seen tick (Some report) off by = said_one tick report off by ∷ []
@@ -35,7 +35,7 @@ abbrev pub said_at : PlainSet → ℤ → List PlainEvent → PlainEvent → Lis
 said_at set off before event =
     said_seen (tick_count (event ∷ before)) (seen_of set off before event).report (seen_of set off before event).off (seen_of set off before event).command
 
--- what is said of events, newest first, in front of what is said later
+-- what is said for events, newest first, in front of what is said later
 abbrev pub said_onto : PlainSet → ℤ → List PlainEvent → List Said → List Said
 said_onto set off [] said = said
 said_onto set off (event ∷ before) said = said_onto set off before (said_at set off before event ++ said)
@@ -145,7 +145,7 @@ holds_now set off base est bound accepted held =
 
 -- ---- what is said later
 
--- where a measurement is kept, what holds stays within its bound in what is said after these events
+-- if a measurement is kept, what holds stays within its bound in what is said after these events
 abbrev pub Stays : PlainSet → ℤ → List PlainEvent → List Said → Type 0
 Stays set off base said =
     HasMark set (calls_of set base) → (est bound : ℤ) → Holds set off base est bound → StaysWithin (tick_count base) est bound said
@@ -239,6 +239,6 @@ all_truly set off (event ∷ before) said ranges accepted stays truly =
     all_truly set off before (said_at set off before event ++ said) ranges accepted.2
     (stays_on set off before event said ranges accepted stays) (event_truly set off before event said ranges accepted stays truly)
 
--- where nothing is said later, all stays
+-- if nothing is said later, all stays
 pub nothing_stays : (set : PlainSet) (off : ℤ) (events : List PlainEvent) → Stays set off events []
 nothing_stays set off events has est bound held = tt

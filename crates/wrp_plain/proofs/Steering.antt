@@ -51,7 +51,7 @@ moves set off before (Exch span dms dsm o2 o3 t) =
     sym (steered off (drifts before) (commands (calls_of set before))
     (command_against set (report_of set (told_by (Exch span dms dsm o2 o3 t) (calls_of set before)))))
 
--- the commands that the servo gave are those that events tell
+-- the commands that the servo gave are the commands that the events give
 command_more : (set : PlainSet) (off : ℤ) (before : List PlainEvent) (event : PlainEvent) →
     commands (calls_of set (event ∷ before)) ≡ commands (calls_of set before) +ℤ (seen_of set off before event).command
 command_more set off before (Pass dt drift) = sym (int_plus_zero (commands (calls_of set before)))
@@ -131,7 +131,7 @@ mark_holds set off before event later none accepted mark near =
 
 -- ---- a report
 
--- what holds of all reports holds of the one that is due
+-- what holds of all reports holds of the expected one
 due_so : (P : PlainReport → Type 0) (reports : List PlainReport) → All P reports → (o : Option PlainReport) → least_report reports ≡ o → IfSome o P
 due_so P reports all None e = tt
 due_so P reports all (Some report) e = All-contains P reports report all (found (is_least reports) reports report e)

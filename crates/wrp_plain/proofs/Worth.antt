@@ -84,7 +84,7 @@ none_less (r ∷ rs) report h =
     (not_less r.bound report.bound (and_first (not (int_lt r.bound report.bound)) (list_all (λ (s : PlainReport). not (int_lt s.bound report.bound)) rs) h))
     (none_less rs report (and_second (not (int_lt r.bound report.bound)) (list_all (λ (s : PlainReport). not (int_lt s.bound report.bound)) rs) h))
 
--- the report that is due keeps its bound, and has the least one
+-- the expected report keeps its bound, and has the least one
 least_within : (off : ℤ) (reports : List PlainReport) → All (IsWithinBound off) reports → (o : Option PlainReport) → least_report reports ≡ o →
     IfSome o (IsWithinBound off)
 least_within off reports all None e = tt

@@ -39,8 +39,8 @@ pub record IsNewestOfLeast (reports : List PlainReport) (report : PlainReport) :
 abbrev pub worked_set : PlainSet
 worked_set = record { rate = 0; err = 0; least = pos 0; span = pos 0; dmax = pos 1; ring = 4; step = pos 1 }
 
--- the offset is rounded down, the half of the round trip up, a move up; of equal bounds the newest is reported, as in the
--- worked row, where both round trips are 12
+-- the offset is rounded down, half of the round trip up, a move up; of equal bounds the newest is reported, as in the
+-- worked row, in which both round trips are 12
 pub record MeasurementsAreExact : Type 0 where
   pub est : (t1 t2 t3 t4 : ℤ) → IsHalfDown (est_of t1 t2 t3 t4) ((t2 -ℤ t1) -ℤ (t4 -ℤ t3))
   pub base : (set : PlainSet) (round : ℤ) → (half : ℤ) × IsHalfUp half round × (base_of set round ≡ bound_from set half)
@@ -55,7 +55,7 @@ pub record MeasurementsAreExact : Type 0 where
 
 -- ---- events
 
--- an exchange keeps its premises, where this is the true offset: the third, the fourth of both delays, the fifth and the
+-- an exchange keeps its premises if this is the true offset: the third, the fourth of both delays, the fifth and the
 -- sixth of both stamps of the slave
 pub record KeepsExchange (set : PlainSet) (off took dms dsm o2 o3 : ℤ) (t : List ℤ) : Type 0 where
   pub span : took ≤ℤ set.span
@@ -66,14 +66,14 @@ pub record KeepsExchange (set : PlainSet) (off took dms dsm o2 o3 : ℤ) (t : Li
   pub stamps_down : unsigned_abs (((t2_of t -ℤ t1_of t) -ℤ dms) -ℤ o2) ≤ 2 * set.err
   pub stamps_up : unsigned_abs (((t4_of t -ℤ t3_of t) -ℤ dsm) +ℤ o3) ≤ 2 * set.err
 
--- an event keeps the premises, where this is the true offset and so much time passed since the last tick
+-- an event keeps the premises, if this is the true offset and this much time passed since the last tick
 abbrev pub Keeps : PlainSet → ℤ → ℕ → PlainEvent → Type 0
 Keeps set off since (Pass dt drift) =
     (pos (unsigned_abs dt + since) ≤ℤ set.dmax) × (unsigned_abs drift * 10 ^ 12 ≤ set.rate * unsigned_abs dt)
 Keeps set off since Tick = Unit {0}
 Keeps set off since (Exch span dms dsm o2 o3 t) = KeepsExchange set off span dms dsm o2 o3 t
 
--- it breaks none exactly where it keeps them
+-- it breaks none if and only if it keeps them
 abbrev pub EventsAreTakenExactly : Type 0
 EventsAreTakenExactly =
     (set : PlainSet) (off : ℤ) (events : List PlainEvent) (event : PlainEvent)

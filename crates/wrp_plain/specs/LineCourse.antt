@@ -1,5 +1,5 @@
 -- What the record lines of a plain servo mean: which are records, what they write, and which line is refused (this
--- project's profile). Nothing is written behind the last record, and no records are refused as a whole.
+-- project's profile). Nothing is written after the last record, and no records are refused as a whole.
 use Rattle.std.specs.Prelude.{◌≡◌, ℕ, ◌+◌, Some, Ok, Err, List, [], ◌∷◌, length, map, reverse}
 use Rattle.wrp_base.specs.declared.fault.TraceFault.{TraceFault}
 use Rattle.wrp_records.specs.declared.machine.Refusal.{Refusal}
@@ -13,12 +13,12 @@ use Rattle.wrp_plain.specs.LineReading.{start_read, event_read}
 use Rattle.wrp_plain.specs.LineText.{events_text, broken_line}
 use Rattle.wrp_plain.specs.Premises.{Accepts, broken_after}
 
--- the lines say these events, which stand newest first
+-- the lines say these events, which are listed newest first
 abbrev pub AreEvents : List (List ℕ) → List PlainEvent → Type 0
 AreEvents lines events = map event_read lines ≡ map (λ (event : PlainEvent). Ok event) (reverse events)
 
--- the first line says the settings and the true offset at the start; those behind it say these events, and each keeps the
--- premises after those before it
+-- the first line says the settings and the true offset at the start; the later lines say these events, and each keeps
+-- the premises after those before it
 pub record IsPlainRun (first : List ℕ) (lines : List (List ℕ)) (start : PlainStart) (events : List PlainEvent) : Type 0 where
   pub starts : start_read first ≡ Ok start
   pub are : AreEvents lines events
@@ -31,7 +31,7 @@ PlainAccepts (first ∷ lines) text =
     (start : PlainStart) × (events : List PlainEvent) × IsPlainRun first lines start events ×
     (text ≡ events_text start.set start.off events)
 
--- behind records a line says an event that breaks a premise: the first that it breaks is told
+-- after records a line says an event that breaks a premise: the first that it breaks is reported
 pub record Breaks (first : List ℕ) (lines : List (List ℕ)) (line last : List ℕ) : Type 0 where
   pub start : PlainStart
   pub events : List PlainEvent
@@ -42,7 +42,7 @@ pub record Breaks (first : List ℕ) (lines : List (List ℕ)) (line last : List
   pub told : broken_after start.set start.off events event ≡ Some broken
   pub is : last ≡ broken_line (length (first ∷ lines) + 1) broken
 
--- behind some lines a line is refused, and this last line names it: the first has other fields than those behind it
+-- after some lines a line is refused, and this last line names it: the first line has other fields than the later ones
 abbrev pub PlainRefuses : List (List ℕ) → List ℕ → Refusal → List ℕ → Type 0
 PlainRefuses [] line BadTrace last =
     (fault : TraceFault) × (start_read line ≡ Err fault) × (last ≡ bad_trace_line 1 fault)
@@ -52,7 +52,7 @@ PlainRefuses (first ∷ lines) line BadTrace last =
 PlainRefuses [] line Broken last = ⊥
 PlainRefuses (first ∷ lines) line Broken last = Breaks first lines line last
 
--- nothing is written behind the last record
+-- nothing is written after the last record
 abbrev pub PlainCloses : List (List ℕ) → List ℕ → Type 0
 PlainCloses lines last = last ≡ []
 

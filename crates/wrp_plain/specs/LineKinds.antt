@@ -1,4 +1,5 @@
--- The kinds of lines behind the first: the word that each begins with, and its number of fields (this project's profile).
+-- The kinds of lines after the first: the word that each begins with, and its number of fields (this project's
+-- profile).
 use Rattle.std.specs.Prelude.{ℕ, Bool, Option, List, [], ◌∷◌, codes, nat_eq}
 use Rattle.std.specs.Cmp.Lexicographic.{pointwise}
 use Rattle.std.specs.List.{find}
@@ -25,6 +26,6 @@ field_count Exch = 10
 abbrev pub all_kinds : List LineKind
 all_kinds = Pass ∷ Tick ∷ Exch ∷ []
 
--- the kind of a line behind the first, by its first field
+-- the kind of a line after the first, by its first field
 abbrev pub kind_of : List ℕ → Option LineKind
 kind_of word = find (λ kind. same_word (word_of kind) word) all_kinds

@@ -1,6 +1,6 @@
--- What the lines of a plain servo say: the first the settings and the true offset at the start, each line behind it an
--- event; and which fault comes first in one that says nothing. The first field is tried first, then the number of fields,
--- then the fields from left to right (this project's profile).
+-- What the lines of a plain servo say: the first the settings and the true offset at the start, each later line an
+-- event; and which fault comes first in one that says nothing. The first field is tried first, then the number of
+-- fields, then the fields from left to right (this project's profile).
 use Rattle.std.specs.Prelude.{ℕ, ℤ, pos, neg_ℤ, ◌^◌, ◌==◌, if◌then◌else◌, Option, None, Some, Result, Ok, Err, List, [], ◌∷◌, length, codes}
 use Rattle.wrp_base.specs.declared.fault.TraceFault.{TraceFault}
 use Rattle.wrp_base.specs.declared.fault.TraceFault.TheVariants.{Fields, Kind}
@@ -17,7 +17,7 @@ use Rattle.wrp_plain.specs.LineKinds.{field_count, kind_of, same_word}
 
 -- Fields
 
--- the number from least to greatest in the field of a place, where it may be below 0
+-- the number from least to greatest, which may be below 0, in the field of a place
 abbrev pub signed_at : ℤ → ℤ → ℕ → List (List ℕ) → Result ℤ TraceFault
 signed_at least greatest place fields =
     number_or_fault place (number_in least greatest (field_of place fields))
@@ -55,7 +55,7 @@ first_of fields =
 abbrev pub start_read : List ℕ → Result PlainStart TraceFault
 start_read line = if is_plain line then first_of (parts_of line) else Err Fields
 
--- The lines behind it
+-- The later lines
 
 -- `pass,DT,DRIFT`
 abbrev pub pass_of : List (List ℕ) → Result PlainEvent TraceFault
@@ -84,7 +84,7 @@ fields_of_kind kinds.Pass fields = pass_of fields
 fields_of_kind kinds.Tick fields = Ok events.Tick
 fields_of_kind kinds.Exch fields = exch_of fields
 
--- the same, where the kind is known and has so many fields
+-- the same, if the kind is known and has this many fields
 abbrev pub counted_of : List (List ℕ) → Option LineKind → Result PlainEvent TraceFault
 counted_of fields None = Err Kind
 counted_of fields (Some kind) =
@@ -94,6 +94,6 @@ counted_of fields (Some kind) =
 abbrev pub event_of : List (List ℕ) → Result PlainEvent TraceFault
 event_of fields = counted_of fields (kind_of (field_of 1 fields))
 
--- the event that a line behind the first says, or the first fault that it has
+-- the event that a line after the first says, or the first fault that it has
 abbrev pub event_read : List ℕ → Result PlainEvent TraceFault
 event_read line = if is_plain line then event_of (parts_of line) else Err Fields

@@ -1,4 +1,5 @@
--- The lines that are written of the events of a plain servo, and those that name a broken premise (this project's profile).
+-- The lines that are written for the events of a plain servo, and those that name a broken premise (this project's
+-- profile).
 use Rattle.std.specs.Prelude.{ℕ, ℤ, pos, ◌+◌, ◌==◌, if◌then◌else◌, Option, None, Some, List, [], ◌∷◌, ◌++◌, codes}
 use Rattle.std.specs.Fmt.{decimal, signed_decimal}
 use Rattle.std.specs.Ordering.{int_eq}
@@ -30,12 +31,12 @@ report_line tick report off =
 abbrev pub step_line : ℕ → ℤ → List ℕ
 step_line tick by = line_of (decimal tick ∷ codes "step" ∷ signed_decimal by ∷ [])
 
--- the line of a report, where there is one
+-- the line of a report, if there is one
 abbrev pub report_text : ℕ → Option PlainReport → ℤ → List ℕ
 report_text tick None off = []
 report_text tick (Some report) off = report_line tick report off
 
--- the line of a command, where it is not 0
+-- the line of a command, if it is not 0
 abbrev pub step_text : ℕ → ℤ → List ℕ
 step_text tick by = if int_eq by (pos 0) then [] else step_line tick by
 
@@ -43,11 +44,11 @@ step_text tick by = if int_eq by (pos 0) then [] else step_line tick by
 abbrev pub seen_text : ℕ → PlainSeen → List ℕ
 seen_text tick seen = report_text tick seen.report seen.off ++ step_text tick seen.command
 
--- the lines of an event behind those before it: TICK counts the ticks so far, the event among them
+-- the lines of an event after the earlier ones: TICK counts the ticks so far, the event among them
 abbrev pub event_text : PlainSet → ℤ → List PlainEvent → PlainEvent → List ℕ
 event_text set off events event = seen_text (tick_count (event ∷ events)) (seen_of set off events event)
 
--- the lines of all events, which stand newest first
+-- the lines of all events, which are listed newest first
 abbrev pub events_text : PlainSet → ℤ → List PlainEvent → List ℕ
 events_text set off [] = []
 events_text set off (event ∷ events) = events_text set off events ++ event_text set off events event

@@ -24,7 +24,7 @@ use Rattle.wrp_plain.specs.World.{IsLeastOf, IsWithinBound, TellsTruth}
 abbrev pub AreDigits : List ℕ → Type 0
 AreDigits octets = list_all is_ascii_digit octets ≡ true
 
--- these words are an estimate and a bound, and a true offset, from which the estimate is at most the bound
+-- these words are an estimate, a bound and a true offset, and the estimate is at most the bound from the true offset
 pub record AreWithin (est bound off : List ℕ) : Type 0 where
   pub report : PlainReport
   pub offset : ℤ
@@ -33,23 +33,23 @@ pub record AreWithin (est bound off : List ℕ) : Type 0 where
   pub off_is : signed_decimal offset ≡ off
   pub within : IsWithinBound offset report
 
--- a line: where it says TICK plain EST BOUND true OFF, these are so, and the report is such
+-- if a line says TICK plain EST BOUND true OFF, the three words are these, and the report is such
 abbrev pub Says : (PlainReport → Type 0) → List ℕ → Type 0
 Says IsSo line =
     (tick est bound off : List ℕ) → AreDigits tick → IsWord est → IsWord bound → IsWord off →
     line ≡ line_of (tick ∷ codes "plain" ∷ est ∷ bound ∷ codes "true" ∷ off ∷ []) →
     (is : AreWithin est bound off) × IsSo is.report
 
--- a line of an event behind those before it: the bound is the least that a measurement gives which is kept with it
+-- a line of an event after the earlier ones: the bound is the least that a measurement gives which is kept with it
 abbrev pub IsTrueLine : PlainSet → List PlainEvent → PlainEvent → List ℕ → Type 0
 IsTrueLine set before event = Says (IsLeastOf (kept_reports set (told_by event (calls_of set before))))
 
--- what an event gives behind those before it is true, and so is each line that is written of it
+-- what an event gives after the earlier ones is true, and so is each line that is written for it
 pub record IsTrueAt (set : PlainSet) (off : ℤ) (before : List PlainEvent) (event : PlainEvent) : Type 0 where
   pub tells : TellsTruth set before event (seen_of set off before event)
   pub lines : AllByRecursion (IsTrueLine set before event) (lines_of (event_text set off before event))
 
--- so it is of each of these events, which stand newest first
+-- so it is for each of these events, which are listed newest first
 abbrev pub AreTrue : PlainSet → ℤ → List PlainEvent → Type 0
 AreTrue set off [] = Unit {0}
 AreTrue set off (event ∷ before) = IsTrueAt set off before event × AreTrue set off before
@@ -60,11 +60,11 @@ RecordsTellTruth =
     (first : List ℕ) (lines : List (List ℕ)) (start : PlainStart) (events : List PlainEvent) →
     IsPlainRun first lines start events → AreTrue start.set start.off events
 
--- each line of a text: where it says a report, the estimate is within the bound of the offset
+-- for each line of a text: if it says a report, the estimate is within the bound of the offset
 abbrev pub AllAreWithin : List ℕ → Type 0
 AllAreWithin text = AllByRecursion (Says (λ report. Unit {0})) (lines_of text)
 
--- what is due for an input, what its first records write, and what stands where the source failed
+-- what is expected for an input, what its first records write, and what is left if the source failed
 abbrev pub OutputTellsTruth : Type 0
 OutputTellsTruth =
     ((octets : List ℕ) (calls : List LinkCall) (status : Status) (text : List ℕ) →

@@ -1,4 +1,4 @@
--- What a machine of the lines of a plain servo stands for: the lines that it has taken (this project's profile).
+-- What a machine of the lines of a plain servo represents: the lines that it has taken (this project's profile).
 use Rattle.std.specs.Prelude.{◌≡◌, ◌≤◌, ℕ, ℤ, IfSome, Option, None, Some, List, [], ◌∷◌}
 use Rattle.std.specs.Option.{option_map_or}
 use Rattle.wrp_records.specs.declared.machine.Refusal.TheVariants as refusal
@@ -15,12 +15,12 @@ use Rattle.wrp_plain.specs.LineText.{broken_line, event_text, tick_count}
 use Rattle.wrp_plain.specs.Premises.{broken_after}
 use Rattle.wrp_plain.specs.World.{HadEvents}
 
--- the course stands for these events: its world was given them, and it counts their ticks
+-- the course represents these events: its world was given them, and it counts their ticks
 pub record HasRun (set : PlainSet) (off : ℤ) (course : PlainRun) (events : List PlainEvent) : Type 0 where
   pub had : HadEvents set off course.world events
   pub ticks : course.ticks ≡ tick_count events
 
--- it stands for the events that the lines say
+-- it represents the events that the lines say
 pub record HasTakenSo (course : PlainRun) (first : List ℕ) (lines : List (List ℕ)) : Type 0 where
   pub start : PlainStart
   pub events : List PlainEvent
@@ -50,8 +50,8 @@ CanTake held = IfSome held.course CountsTicks
 abbrev pub event_count : PlainLines → ℕ
 event_count held = option_map_or (λ (course : PlainRun). course.world.events) held.course 0
 
--- what became of an event, by what is answered: it kept all premises, and its lines are written; or the first premise that
--- it breaks is told
+-- what became of an event, by what is answered: it kept all premises, and its lines are written; or the first premise
+-- that it breaks is reported
 abbrev pub Happens : PlainSet → ℤ → List PlainEvent → PlainEvent → ℕ → PlainRun → List ℕ → Taken → Type 0
 Happens set off events event number new text taken.Accepted =
     HasRun set off new (event ∷ events) × (text ≡ event_text set off events event)

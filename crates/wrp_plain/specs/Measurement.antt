@@ -1,4 +1,4 @@
--- What one two-way measurement tells without White Rabbit: an offset, and how far the true one may be from it (this
+-- What one two-way measurement shows without White Rabbit: an offset, and how far the true one may be from it (this
 -- project's profile).
 use Rattle.std.specs.Prelude.{ℕ, ℤ, pos, ◌+◌, ◌*◌, ◌/◌, ◌^◌, ◌≤◌, ◌+ℤ◌, ◌-ℤ◌, ◌*ℤ◌, ◌≤ℤ◌, unsigned_abs}
 use Rattle.wrp_base.specs.Division.{floor_quotient, ceil_quotient}

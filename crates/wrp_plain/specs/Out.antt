@@ -7,8 +7,8 @@ use Rattle.wrp_plain.specs.Measurement.{round_of, least_round}
 use Rattle.wrp_plain.specs.Call.{Call, CallMeasured, CallCommand}
 use Rattle.wrp_plain.specs.Report.{report_of, command_of}
 
--- the answer to a measurement after these calls: Short exactly where the round trip is below the least; else the report
--- with this measurement, and its command
+-- the answer to a measurement after these calls: Short if and only if the round trip is below the least; else the
+-- report with this measurement, and its command
 abbrev pub IsOut : PlainSet → List Call → ℤ → ℤ → ℤ → ℤ → PlainOut → Type 0
 IsOut set calls t1 t2 t3 t4 (Short round least) =
     (round ≡ round_of t1 t2 t3 t4) × (least ≡ least_round set) × (round <ℤ least)

@@ -61,7 +61,7 @@ stamps_broken set down up = first_broken (
     over 6 (pos (unsigned_abs down)) (pos (2 * set.err)) ∷ over 6 (pos (unsigned_abs up)) (pos (2 * set.err)) ∷ []
     )
 
--- the first premise that an event breaks, where this is the true offset and so much time passed since the last tick
+-- the first premise that an event breaks, if this is the true offset and this much time passed since the last tick
 abbrev pub broken_by : PlainSet → ℤ → ℕ → PlainEvent → Option PlainBroken
 broken_by set off since (Pass dt drift) = first_broken (tick_late set since dt ∷ rate_broken set dt drift ∷ [])
 broken_by set off since Tick = None
@@ -82,7 +82,7 @@ Accepts set off [] = Unit {0}
 Accepts set off (event ∷ events) =
     HasFields event × (broken_after set off events event ≡ None) × Accepts set off events
 
--- the answer to an event: what it gives, exactly where it breaks no premise; else the first that it breaks
+-- the answer to an event: what it gives if and only if it breaks no premise; else the first that it breaks
 abbrev pub IsAnswer : PlainSet → ℤ → List PlainEvent → PlainEvent → Result PlainSeen PlainBroken → Type 0
 IsAnswer set off events event (Ok seen) =
     (broken_after set off events event ≡ None) × (seen ≡ seen_of set off events event)

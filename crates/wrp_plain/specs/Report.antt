@@ -26,7 +26,7 @@ is_least reports r = list_all (λ s. not (int_lt s.bound r.bound)) reports
 abbrev pub least_report : List PlainReport → Option PlainReport
 least_report reports = find (is_least reports) reports
 
--- the report that is due after these calls: of equals the newest
+-- the report that is expected after these calls: of equals the newest
 abbrev pub report_of : PlainSet → List Call → Option PlainReport
 report_of set calls = least_report (kept_reports set calls)
 

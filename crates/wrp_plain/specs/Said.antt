@@ -19,8 +19,8 @@ use Rattle.wrp_plain.specs.LineText.{broken_line, report_line, step_text}
 use Rattle.wrp_plain.specs.Steered.{IsStepAgainst}
 use Rattle.wrp_plain.specs.World.{IsWithinBound}
 
--- a report that is printed at a tick count, with the true offset; and by how much the step line that follows moves the clock:
--- 0 where no step line follows
+-- a report that is printed at a tick count, with the true offset; and by how much the step line that follows moves the
+-- clock: 0 if no step line follows
 pub record Said : Type 0 where
   pub tick : ℕ
   pub report : PlainReport
@@ -32,16 +32,16 @@ abbrev pub said_text : List Said → List ℕ
 said_text [] = []
 said_text (said ∷ later) = (report_line said.tick said.report said.off ++ step_text said.tick said.by) ++ said_text later
 
--- an estimate, moved with each printed step, is within a bound of each true offset that is printed up to the next tick, that
--- of the tick's own report among them
+-- an estimate, moved with each printed step, is within a bound of each true offset that is printed up to the next
+-- tick, including the true offset of the tick's own report
 abbrev pub StaysWithin : (tick : ℕ) → (est bound : ℤ) → List Said → Type 0
 StaysWithin tick est bound [] = Unit {0}
 StaysWithin tick est bound (next ∷ later) =
     (pos (unsigned_abs (est -ℤ next.off)) ≤ℤ bound) × (next.tick ≡ tick → StaysWithin tick (est +ℤ next.by) bound later)
 
 -- a printed report, and those after it: the true offset is within its bound; the step line is the command against its
--- estimate, and where it takes the whole estimate back, the true offset with that step is at most the bound; and the report
--- holds until the next tick
+-- estimate, and if it takes the whole estimate back, the true offset with that step is at most the bound; and the
+-- report holds until the next tick
 pub record IsSaidTruly (step : ℤ) (said : Said) (later : List Said) : Type 0 where
   pub within : IsWithinBound said.off said.report
   pub steps : (said.by ≡ pos 0) ⊎ IsStepAgainst step said.report.est said.by
@@ -65,7 +65,7 @@ pub record WorkedSaid : Type 0 where
   pub within : AreSaidTruly (pos 1000000) (worked_said (neg_ℤ (pos 101)))
   pub beyond : AreSaidTruly (pos 1000000) (worked_said (neg_ℤ (pos 102))) → ⊥
 
--- what some records write: the lines of such reports, where the first record gives the greatest step
+-- what some records write: the lines of such reports, where the greatest step is the one that the first record gives
 abbrev pub WritesTruly : List (List ℕ) → List ℕ → Type 0
 WritesTruly [] text = text ≡ []
 WritesTruly (first ∷ lines) text =
@@ -92,7 +92,7 @@ pub record WritesFirst (status : Status) (input octets : List ℕ) : Type 0 wher
   pub names : Names status (length front + 1) last
   pub writes : WritesTruly (map content_of front) written
 
--- an answer: where it is Done, all lines of the input write so
+-- an answer: if it is Done, all lines of the input write so
 abbrev pub WritesBy : Status → (input octets : List ℕ) → Type 0
 WritesBy Done input octets = WritesTruly (map content_of (lines_of input)) octets
 WritesBy status input octets = WritesFirst status input octets
@@ -104,7 +104,7 @@ pub record WritesFront (input octets : List ℕ) : Type 0 where
   pub divided : lines_of input ≡ front ++ behind
   pub writes : WritesTruly (map content_of front) octets
 
--- an answer where the source failed after these octets: what their whole lines write
+-- an answer if the source failed after these octets: what their whole lines write
 pub record WritesWhole (taken octets : List ℕ) : Type 0 where
   pub lines : List (List ℕ)
   pub cut : List ℕ
@@ -113,7 +113,7 @@ pub record WritesWhole (taken octets : List ℕ) : Type 0 where
   pub rest : HasNoFeed cut
   pub writes : WritesTruly (map content_of lines) octets
 
--- so it is for each status; where a write failed the last line may be cut, and nothing is claimed
+-- so it is for each status; if a write failed the last line may be cut, and nothing is claimed
 abbrev pub WritesSo : (input : List ℕ) → Status → (octets : List ℕ) → Type 0
 WritesSo input Done octets = WritesBy Done input octets
 WritesSo input BadTrace octets = WritesBy BadTrace input octets
@@ -123,7 +123,7 @@ WritesSo input ReadFault octets = (taken : List ℕ) × (left : List ℕ) × (in
 WritesSo input OutOfMemory octets = WritesFront input octets
 WritesSo input status octets = Unit {0}
 
--- so it is whatever the input is and wherever its answer ends, also where nothing was written
+-- so it is whatever the input is and wherever its answer ends, also if nothing was written
 pub record OutputHoldsUntilTick : Type 0 where
   pub answers : (input : List ℕ) (calls : List LinkCall) (status : Status) (octets : List ℕ) →
       (of_lines plain_meaning).answers input calls status octets → WritesBy status input octets

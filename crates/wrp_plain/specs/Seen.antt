@@ -1,4 +1,4 @@
--- What the servo of a world is told and answers, event by event, and the true offset (this project's profile).
+-- What the servo of a world is given and answers, event by event, and the true offset (this project's profile).
 use Rattle.std.specs.Prelude.{ℤ, pos, ◌+ℤ◌, List, [], ◌∷◌, Option, Some, None}
 use Rattle.wrp_plain.specs.declared.settings.PlainSet.{PlainSet}
 use Rattle.wrp_plain.specs.declared.settings.PlainReport.{PlainReport}
@@ -9,13 +9,13 @@ use Rattle.wrp_plain.specs.Event.{t1_of, t2_of, t3_of, t4_of, drifts}
 use Rattle.wrp_plain.specs.Call.{Call, CallMeasured, CallTick, CallCommand}
 use Rattle.wrp_plain.specs.Report.{report_of, command_of}
 
--- the calls of the servo with what this event tells it
+-- the calls of the servo with what this event gives it
 abbrev pub told_by : PlainEvent → List Call → List Call
 told_by (Pass dt drift) calls = calls
 told_by Tick calls = CallTick ∷ calls
 told_by (Exch span dms dsm o2 o3 t) calls = CallMeasured (t1_of t) (t2_of t) (t3_of t) (t4_of t) ∷ calls
 
--- the report that is due with this event, after these calls: none where time passes
+-- the report that is expected with this event, after these calls: none when time passes
 abbrev pub report_due : PlainSet → PlainEvent → List Call → Option PlainReport
 report_due set (Pass dt drift) calls = None
 report_due set Tick calls = report_of set calls
@@ -26,7 +26,7 @@ abbrev pub command_against : PlainSet → Option PlainReport → ℤ
 command_against set None = pos 0
 command_against set (Some report) = command_of set report
 
--- the command that is due with this event: only an exchange moves the clock
+-- the command that is expected with this event: only an exchange moves the clock
 abbrev pub command_due : PlainSet → PlainEvent → List Call → ℤ
 command_due set (Pass dt drift) calls = pos 0
 command_due set Tick calls = pos 0

@@ -13,16 +13,16 @@ pub record PlainAt : Type 0 where
   pub last : ℤ
   pub ticks : ℕ
 
--- what a kept measurement stands for
+-- what a kept measurement means
 abbrev pub mark_of : ℤ → ℕ → Kept → Standing
 mark_of moved ticks kept = record { est = kept.est +ℤ moved; base = kept.base; ticks = ticks - kept.ticks }
 
--- what the kept measurements stand for, where later commands moved the clock by `moved`
+-- what the kept measurements mean, if later commands moved the clock by `moved`
 abbrev pub marks_from : ℤ → ℕ → List Kept → List Standing
 marks_from moved ticks [] = []
 marks_from moved ticks (kept ∷ rest) = mark_of moved ticks kept ∷ marks_from (moved +ℤ kept.before) ticks rest
 
--- what they stand for now
+-- what they mean now
 abbrev pub marks_at : PlainAt → List Standing
 marks_at plain = marks_from plain.last plain.ticks plain.ring
 
@@ -44,7 +44,7 @@ abbrev pub AreKept : ℕ → List Kept → Type 0
 AreKept ticks [] = Unit {0}
 AreKept ticks (kept ∷ rest) = IsKept ticks kept × AreKept ticks rest
 
--- the offset that a report tells is at most 2^68, either sign
+-- the offset of a report is at most 2^68, either sign
 abbrev pub HasSmallEst : PlainReport → Type 0
 HasSmallEst report = unsigned_abs report.est ≤ 2 ^ 68
 

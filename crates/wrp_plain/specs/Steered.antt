@@ -12,7 +12,7 @@ use Rattle.wrp_plain.specs.Premises.{Accepts}
 use Rattle.wrp_plain.specs.Seen.{seen_of, true_offset}
 use Rattle.wrp_plain.specs.World.{IsWithinBound}
 
--- a command against an estimate: all of it, where it is no greater than a step, and else a step towards 0
+-- a command against an estimate: all of it if it is no greater than a step, and else a step towards 0
 pub record IsStepAgainst (step est by : ℤ) : Type 0 where
   pub whole : neg_ℤ step ≤ℤ est → est ≤ℤ step → by ≡ neg_ℤ est
   pub above : step <ℤ est → by ≡ neg_ℤ step
@@ -62,7 +62,7 @@ pub record IsSteeredAt (set : PlainSet) (off : ℤ) (before : List PlainEvent) (
   pub left : IsLeft set event (seen_of set off before event) (true_offset set off (event ∷ before))
   pub holds : (later : List PlainEvent) → HoldsFor set off before event (seen_of set off before event) later
 
--- so it is with each of these events, newest first
+-- so it is for each of these events, newest first
 abbrev pub AreSteered : PlainSet → ℤ → List PlainEvent → Type 0
 AreSteered set off [] = Unit {0}
 AreSteered set off (event ∷ before) = IsSteeredAt set off before event × AreSteered set off before

@@ -10,8 +10,8 @@ pub record Exchange : Type 0 where
   pub o2 : ℤ
   pub o3 : ℤ
 
--- the stamps of an exchange keep the settings, where the true offset is `off`: neither way is shorter than the least,
--- the offset moved by at most v, and each way was measured to within the errors of its two stamps
+-- the stamps of an exchange keep the settings if the true offset is `off`: neither way is shorter than the least, the
+-- offset moved by at most v, and each way was measured to within the errors of its two stamps
 pub record Keeps (set : PlainSet) (off : ℤ) (true : Exchange) (t1 t2 t3 t4 : ℤ) : Type 0 where
   pub least_down : set.least ≤ℤ true.dms
   pub least_up : set.least ≤ℤ true.dsm
@@ -20,7 +20,7 @@ pub record Keeps (set : PlainSet) (off : ℤ) (true : Exchange) (t1 t2 t3 t4 : �
   pub stamps_down : unsigned_abs (((t2 -ℤ t1) -ℤ true.dms) -ℤ true.o2) ≤ 2 * set.err
   pub stamps_up : unsigned_abs (((t4 -ℤ t3) -ℤ true.dsm) +ℤ true.o3) ≤ 2 * set.err
 
--- the error statement of a measurement: where the stamps keep the settings, the round trip is not short, and the true
+-- the error statement of a measurement: if the stamps keep the settings, the round trip is not short, and the true
 -- offset is within the bound of the measured one
 abbrev pub MeasuredWithinBound : Type 0
 MeasuredWithinBound =

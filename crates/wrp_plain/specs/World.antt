@@ -1,4 +1,4 @@
--- The list of events that a world with a plain servo stands for, and what its reports are worth (this project's
+-- The list of events that a world with a plain servo represents, and what its reports are worth (this project's
 -- profile).
 use Rattle.std.specs.Prelude.{◌≡◌, ℕ, ℤ, pos, ◌≤ℤ◌, ◌-ℤ◌, unsigned_abs, List, length, All, Contains, IfSome, IsSome}
 use Rattle.wrp_plain.specs.declared.settings.PlainSet.{PlainSet}
@@ -28,7 +28,7 @@ pub record HadEvents (set : PlainSet) (off : ℤ) (world : WorldAt) (events : Li
   pub events_are : world.events ≡ length events
   pub accepted : Accepts set off events
 
--- a report tells the true offset to within its bound
+-- a report gives the true offset to within its bound
 abbrev pub IsWithinBound : ℤ → PlainReport → Type 0
 IsWithinBound off report = pos (unsigned_abs (report.est -ℤ off)) ≤ℤ report.bound
 

@@ -13,7 +13,7 @@ pub enum PlainEvent {
     },
     /// The servo ticks.
     Tick,
-    /// An exchange ends: the servo is told its four stamps.
+    /// An exchange ends: the servo is given its four stamps.
     Exch {
         /// How long it took: 0 to `2^60`.
         span: i64,
@@ -34,9 +34,9 @@ pub enum PlainEvent {
 /// What an event of such a world gives.
 #[derive(Clone, Copy, Debug, PartialEq, Eq)]
 pub struct PlainSeen {
-    /// The servo's report: at a tick where a measurement is kept, and at each exchange.
+    /// The servo's report: at a tick if a measurement is kept, and at each exchange.
     pub report: Option<PlainReport>,
-    /// By how much the clock is moved after the report, in tau: 0 but at an exchange.
+    /// By how much the clock is moved after the report, in tau: 0 except at an exchange.
     pub command: i64,
     /// The true offset after the event and before its command, in tau.
     pub off: i128,

@@ -1,4 +1,4 @@
-//! The lines of a plain servo: the first says how its world starts, each behind it an event.
+//! The lines of a plain servo: the first says how its world starts, and each later line is an event.
 ghost use Rattle.std.specs.Prelude.{◌≡◌, ◌+◌, ◌++◌, ◌∷◌, [], ◌^◌, ◌<◌, ◌≤◌, ℕ, List, None, IfOk, length};
 ghost use Rattle.wrp_records.specs.Split.{IsSplit};
 ghost use Rattle.wrp_records.specs.declared.machine.Refusal.{Refusal};
@@ -21,11 +21,11 @@ use std::alloc::{AllocError, Global};
 use wrp_io::{Sink, Source};
 use wrp_records::{Closing, Machine, Status, Taken, refuse, run_all_lines};
 
-/// The command `plain`: it takes the records of a source, from its first octet on, a line each, and
-/// writes what they make to a sink before more is asked for. The first line is
-/// `param,RATE,ERR,LEAST,SPAN,DMAX,RING,STEP,OFF`; those behind it are `pass,DT,DRIFT`, `tick` and
-/// `exch,SPAN,DMS,DSM,O2,O3,T1,T2,T3,T4`. An event writes `TICK plain EST BOUND true OFF` where the servo
-/// reports, and behind it `TICK step N` where its command is not 0.
+/// The command `plain`: it takes the records of a source, from its first octet on, one per line, and
+/// writes what they make to a sink before it asks for more. The first line is
+/// `param,RATE,ERR,LEAST,SPAN,DMAX,RING,STEP,OFF`; the later ones are `pass,DT,DRIFT`, `tick` and
+/// `exch,SPAN,DMS,DSM,O2,O3,T1,T2,T3,T4`. An event writes `TICK plain EST BOUND true OFF` if the servo
+/// reports, and after it `TICK step N` if its command is not 0.
 pub fn plain<S: Source, K: Sink>(alloc: Global, source: &mut S, sink: &mut K) -> Status
     ensures passes { PassesAll (of_lines plain_meaning)
         (passage S.left S.faults source.old source.new) (passage K.held K.faults sink.old sink.new)
@@ -81,7 +81,7 @@ impl PlainLines {
     }
 }
 
-// Takes a line behind the first.
+// Takes a line after the first.
 fn go_on(
     course: &mut PlainRun,
     alloc: Global,

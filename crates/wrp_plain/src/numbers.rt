@@ -7,7 +7,7 @@ ghost use Rattle.wrp_plain.specs.Measurement.{moves_within, round_of, est_of};
 use wrp_base::{ceil_div, difference, floor_div, hold, narrow, sum};
 
 /// One second has this many of the units of a rate, and one tau this many of the units in which a
-/// rate's move is told.
+/// rate's move is given.
 pub const RATE_UNIT: u128 = 1_000_000_000_000;
 
 /// The command against an offset, held within the greatest step.
@@ -64,7 +64,7 @@ pub fn offset(t1: i64, t2: i64, t3: i64, t4: i64) -> i128
     floor_div(difference(apart(t1, t2), apart(t3, t4)), 2)
 }
 
-/// How far the second stamp is behind the first.
+/// How much later the second stamp is than the first.
 pub fn apart(first: i64, second: i64) -> i128
     requires first { unsigned_abs first ≤ 2 ^ 61 }
     requires second { unsigned_abs second ≤ 2 ^ 61 }

@@ -9,8 +9,8 @@ use crate::numbers::{RATE_UNIT, apart, moves_within};
 use crate::settings::PlainSet;
 use wrp_base::{difference, sum};
 
-/// Judges an event where this is the true offset, and so much time passed since the last tick or
-/// the start: the first premise that it breaks is refused. Ok exactly where it breaks none.
+/// Judges an event, given the true offset `off` and the time `since` that passed since the last tick or
+/// the start: the first premise that it breaks is refused. Ok if and only if it breaks none.
 pub fn judge(set: &PlainSet, off: i128, since: u64, event: &PlainEvent) -> Result<(), PlainBroken>
     requires set { HasRanges set.now }
     requires off { unsigned_abs off ≤ 2 ^ 94 }

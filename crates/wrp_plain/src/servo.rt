@@ -39,8 +39,8 @@ impl Model for Plain {
 }
 
 impl Plain {
-    /// A servo that was given no measurement. It takes all the memory that it will need.
-    /// `AllocError` where there is not that much: no servo is made.
+    /// A servo that was given no measurement. It takes all the memory that it will need. `AllocError`
+    /// if there is not that much: then no servo is made.
     pub fn new(alloc: Global, set: PlainSet) -> Result<Plain, AllocError>
         requires { HasRanges set }
         ensures { IfOk result (λ plain. StandsFor set plain []) }
@@ -56,7 +56,7 @@ impl Plain {
     /// Takes the four stamps of an exchange, each within `2^61` either way, in tau: `t1` the master's
     /// sending, `t2` the slave's reception, `t3` the slave's sending, `t4` the master's reception.
     ///
-    /// Short where the round trip is less than the settings allow: nothing changes then. Else the
+    /// Short if the round trip is less than the settings allow: then nothing changes. Otherwise the
     /// measurement is kept, and the clock is to be moved by the command, after the report.
     pub fn measured(&mut self, t1: i64, t2: i64, t3: i64, t4: i64) -> PlainOut
         requires t1 { unsigned_abs t1 ≤ 2 ^ 61 }
@@ -96,8 +96,8 @@ impl Plain {
         self.set
     }
 
-    /// Takes a tick, and reports. None exactly where no measurement is kept. At most `2^32 - 1`
-    /// ticks may come. The tick counts in both cases.
+    /// Takes a tick, and reports. None if and only if no measurement is kept. At most `2^32 - 1` ticks
+    /// may come. The tick counts in both cases.
     pub fn tick(&mut self) -> Option<PlainReport>
         requires { self.old.ticks < 2 ^ 32 - 1 }
         ensures value { (set : PlainSet) (calls : List Call) → StandsFor set self.old calls → result ≡ report_of set (CallTick ∷ calls) }
@@ -109,7 +109,7 @@ impl Plain {
         self.report()
     }
 
-    // The report, where a measurement is kept.
+    // The report when a measurement is kept.
     fn best(&self) -> PlainReport
         requires { marks_at self.now ≢ [] }
         ensures value { Some result ≡ least_report (map (report_at self.now.set) (marks_at self.now)) }
@@ -199,7 +199,7 @@ impl Plain {
         }
     }
 
-    // What a kept measurement reports, where later commands moved the clock by `moved`.
+    // What a kept measurement reports, if later commands moved the clock by `moved`.
     fn report_at(&self, kept: Kept, moved: i128) -> PlainReport
         requires kept { IsKept self.now.ticks kept }
         requires moved { unsigned_abs moved ≤ 2 ^ 67 }

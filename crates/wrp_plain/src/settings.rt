@@ -1,6 +1,6 @@
 //! The settings of a plain servo, and what it answers.
 
-/// The settings of a plain servo, in tau where no unit is named.
+/// The settings of a plain servo, in tau unless another unit is named.
 #[derive(Clone, Copy, Debug, PartialEq, Eq)]
 pub struct PlainSet {
     /// How fast the offset may move, in `10^-12`: at most `10^9`.

@@ -20,7 +20,7 @@ use std::marker::Model;
 use wrp_base::sum;
 
 /// A world with a plain servo: true time, the true offset of the slave's clock, and the servo that is
-/// told the stamps of exchanges and moves that clock.
+/// given the stamps of exchanges and moves that clock.
 #[derive(Debug, Drop)]
 pub struct PlainWorld {
     servo: Plain,
@@ -42,9 +42,9 @@ impl Model for PlainWorld {
 }
 
 impl PlainWorld {
-    /// A world before its first event, where the true offset is `off`, in tau: at most `2^62`,
-    /// either way. It takes all the memory that it will need. `AllocError` where there is not that
-    /// much: no world is made.
+    /// A world before its first event, with the true offset `off`, in tau: at most `2^62`, either way.
+    /// It takes all the memory that it will need. `AllocError` if there is not that much: then no world
+    /// is made.
     pub fn new(alloc: Global, set: PlainSet, off: i64) -> Result<PlainWorld, AllocError>
         requires set { HasRanges set }
         requires off { unsigned_abs off ≤ 2 ^ 62 }
@@ -67,10 +67,10 @@ impl PlainWorld {
 
     /// Takes an event, whose fields are in their ranges. At most `2^32 - 1` events may come.
     ///
-    /// It is refused exactly where it breaks one of the six premises, with the least that it breaks and
-    /// the first quantity that breaks it; then nothing changes. The premises, in their order:
+    /// It is refused if and only if it breaks one of the six premises, with the least that it breaks
+    /// and the first quantity that breaks it; then nothing changes. The premises, in their order:
     ///
-    /// 1. where time passes, it is at most `dmax` since the last tick or the start;
+    /// 1. when time passes, it is at most `dmax` since the last tick or the start;
     /// 2. the true offset then moves by at most `rate` in `10^12` of that time;
     /// 3. an exchange takes at most `span`;
     /// 4. neither of its delays is below `least`;
@@ -146,7 +146,7 @@ impl PlainWorld {
         }
     }
 
-    // The servo is told the stamps of an exchange that is long enough, and moves the clock.
+    // The servo is given the stamps of an exchange that is long enough, and moves the clock.
     fn exchange(&mut self, t: &[i64; 4]) -> PlainSeen
         requires few { self.old.events < 2 ^ 32 - 1 }
         requires stamps { AreStamps t.now }

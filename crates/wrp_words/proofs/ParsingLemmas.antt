@@ -10,7 +10,7 @@ pub is_simple_line : is_simple wrnet ≡ true
 unfolding clap_on_literals
 is_simple_line = refl
 
--- each option, with its value behind `=` and as the next word
+-- each option, with its value after `=` and as the next word
 emit_behind : (value : List ℕ) → IsRead (codes "audit" ∷ (codes "--emit" ++ codes "=" ++ value) ∷ []) (codes "emit") value
 unfolding clap_on_literals
 emit_behind value = record { taken = refl; found = refl }
@@ -55,12 +55,12 @@ number_next (x ∷ xs) plain =
     let other : (x == 45) ≡ false = ne_eqb _ _ (λ e. plain (xs, ap (λ y. y ∷ xs) e)) in
     record { taken = simp other refl; found = simp other refl }
 
--- the value of an option of a command that was found is that of its rows
+-- the value of an option of a command that was found is the value in its rows
 pub value_of_rows : (option : List ℕ) (command : Option (List ℕ × List Row)) → value_of_option option command ≡ option_and_then (first_of option) (option_map (λ named. named.1) command)
 value_of_rows option None = refl
 value_of_rows option (Some named) = refl
 
--- a form that is read with its value behind `=` and as the next word is read
+-- a form that is read with its value after `=` and as the next word is read
 reads_with : (command dashed option : List ℕ) → ((value : List ℕ) → (IsDashed value → ⊥) → IsRead (command ∷ dashed ∷ value ∷ []) option value)
     → ((value : List ℕ) → IsRead (command ∷ (dashed ++ codes "=" ++ value) ∷ []) option value)
     → (words : List (List ℕ)) (value : List ℕ) → IsCommandWith command dashed words value → IsRead words option value

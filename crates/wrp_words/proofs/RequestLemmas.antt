@@ -110,7 +110,7 @@ alone_asks words Plain is = ap request_in is
 abbrev HasSome : List (List ℕ) → Type 0
 HasSome words = (form : Form) × HasForm words form
 
--- where words after the name of a row ask for something, they have a form with the name in front
+-- if words after the name of a row ask for something, they have a form with the name in front
 abbrev IsSound : Row → Type 0
 IsSound row = (rest : List (List ℕ)) (request : Request) → request_behind row.behind rest ≡ Some request → HasSome (row.name ∷ rest)
 

@@ -8,7 +8,7 @@ use Rattle.wrp_words.specs.Refusals.{usage_line}
 use Rattle.wrp_words.specs.Rows.{Behind, Bare, May, Must, Row, rows}
 use Rattle.wrp_words.specs.Words.{texts_of}
 
--- the text after this front, or none where it begins with another
+-- the text after this front, or none if it begins with another
 abbrev pub text_after : List ℕ → List ℕ → Option (List ℕ)
 text_after [] text = Some text
 text_after (x ∷ front) [] = None
@@ -38,16 +38,16 @@ abbrev pub row_named : List ℕ → List Row → Option Row
 row_named name [] = None
 row_named name (row ∷ more) = if bytes_eq row.name name then Some row else row_named name more
 
--- what words ask for, or none where they are no command
+-- what words ask for, or none if they are no command
 unfoldable pub request_in : List (List ℕ) → Option Request
 request_in [] = None
 request_in (first ∷ words) = option_and_then (λ row. request_behind row.behind words) (row_named first rows)
 
--- what words that are lent say
+-- what borrowed words say
 abbrev pub asked_in : List (Bor (List ℕ)) → CommandLine
 asked_in words = record { request = request_in (texts_of words); usage = usage_line }
 
--- the first word is that of a command which reports true offsets, whatever the other words are
+-- the first word is the word of a command which reports true offsets, whatever the other words are
 abbrev pub ReportsTrueOffsets : List (List ℕ) → Type 0
 ReportsTrueOffsets words =
     (first : List ℕ) × (others : List (List ℕ)) × (words ≡ first ∷ others)

@@ -75,18 +75,18 @@ abbrev pub IsLineOf : List Row → List (List ℕ) → Type 0
 IsLineOf [] words = ⊥
 IsLineOf (row ∷ more) words = IsLine row.name row.behind words ⊎ IsLineOf more words
 
--- a parser that knows a command more, where it has an option
+-- a parser that knows one more command, if that command has an option
 abbrev pub with_row : App → List ℕ → Behind → App
 with_row app name (Bare asks) = app
 with_row app name (May asks option value with) = with_subcommand app (with_option name option false).top
 with_row app name (Must option value with) = with_subcommand app (with_option name option true).top
 
--- a parser that knows these commands more
+-- a parser that also knows these commands
 abbrev pub with_rows : App → List Row → App
 with_rows app [] = app
 with_rows app (row ∷ more) = with_rows (with_row app row.name row.behind) more
 
--- the usage line, the forms of a command line and what `clap` knows are those of the table
+-- the usage line, the forms of a command line and what `clap` knows are given by the table
 pub record LinesAreOfRows : Type 0 where
   pub usage : usage_line ≡ codes "usage: wrnet " ++ rows_text rows ++ codes "\n"
   pub forms : (words : List (List ℕ)) → ((form : Form) × HasForm words form) ↔ IsLineOf rows words

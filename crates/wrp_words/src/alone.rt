@@ -6,7 +6,7 @@ ghost use Rattle.wrp_words.specs.Words.{texts_of};
 
 use wrp_commands::Alone;
 
-/// The command that stands alone whose word the words are, or None where they are none of these.
+/// The command that stands alone whose word the words are, or None if they are no such word.
 pub fn alone_of(words: &[&str]) -> Option<Alone>
     ensures { MatchOption result
         ((alone : Alone) → IsAlone (texts_of words.now) alone → ⊥)

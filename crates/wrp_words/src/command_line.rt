@@ -1,4 +1,5 @@
-//! The form of the command line: a scan of the words, which tells whether they have that of a command.
+//! The form of the command line: a scan of the words, which finds whether they have the form of a
+//! command.
 ghost use Rattle.std.specs.Prelude.{◌≡◌, ◌↔◌, ◌++◌, ◌∷◌, [], ℕ, List, codes, IsTrue, MatchOption};
 ghost use Rattle.wrp_words.specs.declared.command_line.Form.{Form};
 ghost use Rattle.wrp_words.specs.CommandLine.{IsDashed, IsForm, HasForm, GivesOption, GivesValue};
@@ -43,7 +44,7 @@ fn behind<'a>(word: &'a str, prefix: &str) -> Option<&'a str>
     word.strip_prefix(prefix)
 }
 
-// The value behind `=` in one word.
+// The value after `=` in one word.
 fn of_one<'a>(option: &str, joined: &str, word: &'a str) -> Option<&'a str>
     requires { joined.now ≡ option.now ++ codes "=" }
     ensures { GivesOption option.now (word.now ∷ []) result }
@@ -115,7 +116,7 @@ fn is_audit(words: &[&str]) -> bool
     }
 }
 
-/// The form of the command line that the words are, or None where they have none.
+/// The form of the command line that the words are, or None if they have none.
 pub fn form_of(words: &[&str]) -> Option<Form>
     ensures { MatchOption result
         ((form : Form) (value : List ℕ) → IsForm form (texts_of words.now) value → ⊥)

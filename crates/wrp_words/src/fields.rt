@@ -7,8 +7,7 @@ use wrp_fields::unsigned;
 // The most digits that a seed may have.
 const SEED_DIGITS: usize = 20;
 
-/// The seed that a text writes: 1 to 20 digits. None where it is not that, or is above the greatest
-/// u64.
+/// The seed that a text writes: 1 to 20 digits. None if it is not that, or is above the greatest u64.
 pub fn seed(text: &[u8]) -> Option<u64>
     ensures { result ≡ seed_of text.now }
 {

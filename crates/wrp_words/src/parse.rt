@@ -1,5 +1,5 @@
-//! The command line, read with `clap`: a scan tells whether the words are a command, and `clap`, which
-//! then refuses them only for want of memory, gives the value of its option.
+//! The command line, read with `clap`: a scan shows whether the words are a command, and `clap`, which
+//! then refuses them only if memory runs out, gives the value of its option.
 ghost use Rattle.std.specs.Prelude.{◌≡◌, true, false, ℕ, List, codes, option_map, IfOk, IfErr};
 ghost use Rattle.clap.specs.Words.{app_of, kind_of, new_app, rule_of, subcommand_of, subcommand_rows_of, takes, with_rule, with_subcommand};
 ghost use Rattle.clap.specs.declared.error.kind.ErrorKind.{ErrorKind};
@@ -35,7 +35,7 @@ fn bare_parser<'a>(alloc: Global) -> Parser<'a>
         .subcommand_required(true)
 }
 
-// A command line with one command more, which has one option.
+// A command line with one more command, which has one option.
 fn with_command<'a>(
     alloc: Global,
     parser: Parser<'a>,
@@ -64,7 +64,7 @@ fn parser<'a>(alloc: Global) -> Result<Parser<'a>, AllocError>
     with_command(alloc, simulate, "loop", seed)
 }
 
-// What clap makes of words that it takes. It then fails only for want of memory.
+// What clap makes of words that it takes. It then fails only if memory runs out.
 fn matches_of<'a>(alloc: Global, words: &'a [&'a str]) -> Result<ArgMatches<'a>, Error>
     requires { takes wrnet (texts_of words.now) ≡ true }
     ensures ok { IfOk result (λ matches.
@@ -97,7 +97,7 @@ fn given<'a>(alloc: Global, words: &'a [&'a str], option: &str) -> Result<&'a st
     Ok(value_of(&matches, option).unwrap())
 }
 
-// The seed that the words give, or None where the value is none.
+// The seed that the words give, or None if the value is none.
 fn given_seed(alloc: Global, words: &[&str]) -> Result<Option<u64>, AllocError>
     requires { (value : List ℕ) × IsRead (texts_of words.now) (codes "seed") value }
     ensures { IfOk result (λ found. (text : List ℕ)
@@ -106,7 +106,7 @@ fn given_seed(alloc: Global, words: &[&str]) -> Result<Option<u64>, AllocError>
     Ok(fields::seed(given(alloc, words, "seed")?.as_bytes()))
 }
 
-// The command with a seed, or None where the seed is none.
+// The command with a seed, or None if the seed is none.
 fn simulate_of<'a>(alloc: Global, words: &[&str]) -> Result<Option<Command<'a>>, AllocError>
     requires { HasForm (texts_of words.now) Form.Simulate }
     ensures { IfOk result (AsksFor words.now) }
@@ -117,7 +117,7 @@ fn simulate_of<'a>(alloc: Global, words: &[&str]) -> Result<Option<Command<'a>>,
     }
 }
 
-// The command with a seed, or None where the seed is none.
+// The command with a seed, or None if the seed is none.
 fn loop_of<'a>(alloc: Global, words: &[&str]) -> Result<Option<Command<'a>>, AllocError>
     requires { HasForm (texts_of words.now) Form.Loop }
     ensures { IfOk result (AsksFor words.now) }
@@ -128,7 +128,7 @@ fn loop_of<'a>(alloc: Global, words: &[&str]) -> Result<Option<Command<'a>>, All
     }
 }
 
-// The command of words that have a form, or None where a seed is none.
+// The command of words that have a form, or None if a seed is none.
 fn command_of<'a>(
     alloc: Global,
     words: &'a [&'a str],
@@ -153,8 +153,8 @@ fn command_of<'a>(
     }
 }
 
-/// The command that the words are, or None where they are none. `AllocError` where there is no
-/// memory to read them.
+/// The command that the words are, or None if they are none. `AllocError` if there is no memory to read
+/// them.
 pub fn read_words<'a>(
     alloc: Global,
     words: &'a [&'a str],

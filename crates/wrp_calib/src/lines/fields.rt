@@ -68,8 +68,8 @@ fn time_at(row: &ByteRecord, place: u32) -> Result<i64, TraceFault>
     }
 }
 
-/// What record 1 says: `err,E`. `Kind` where the first field is another, `Fields` where there are
-/// not 2 fields, `Number` where E is not 0 to `10^9`.
+/// What record 1 says: `err,E`. `Kind` if the first field is another, `Fields` if there are not 2
+/// fields, `Number` if E is not 0 to `10^9`.
 pub fn error_line(row: &ByteRecord) -> Result<u64, TraceFault>
     ensures value { says_error result ≡ error_line (fields_of row.now) }
     ensures range { IfOk result (λ e. e ≤ 10 ^ 9) }
@@ -83,9 +83,8 @@ pub fn error_line(row: &ByteRecord) -> Result<u64, TraceFault>
     error_at(row, 2)
 }
 
-/// What record 2 says: `patch,D,EP`. `Kind` where the first field is another, `Fields` where there
-/// are not 3 fields, `Number` for the first of D, 0 to `10^15`, and EP, 0 to `10^9`, that is not
-/// that.
+/// What record 2 says: `patch,D,EP`. `Kind` if the first field is another, `Fields` if there are not 3
+/// fields, `Number` for the first that is out of its range, of D, 0 to `10^15`, and EP, 0 to `10^9`.
 pub fn cord_line(row: &ByteRecord) -> Result<Cord, TraceFault>
     ensures value { says_cord result ≡ cord_line (fields_of row.now) }
     ensures d { IfOk result (λ cord. cord.d ≤ 10 ^ 15) }
@@ -102,7 +101,7 @@ pub fn cord_line(row: &ByteRecord) -> Result<Cord, TraceFault>
     Ok(Cord { d, ep })
 }
 
-// `T1,T2,T3,T4,SKEW`, behind the word of a kind of runs.
+// `T1,T2,T3,T4,SKEW`, after the word of a kind of runs.
 fn run_said(row: &ByteRecord, kind: RunKind) -> Result<RunLine, TraceFault>
     ensures value { says_run result ≡ run_said kind (fields_of row.now) }
     ensures range { IfOk result (λ run. All (λ n. unsigned_abs n ≤ 2 ^ 60) run.times) }
@@ -119,8 +118,8 @@ fn run_said(row: &ByteRecord, kind: RunKind) -> Result<RunLine, TraceFault>
 }
 
 /// What each further record says: `ref,T1,T2,T3,T4,SKEW`, or the same with `straight` or `swapped`.
-/// `Kind` where the first field is no such word, `Fields` where there are not 6 fields, `Number`
-/// for the first number that is not within `2^60` either way.
+/// `Kind` if the first field is no such word, `Fields` if there are not 6 fields, `Number` for the
+/// first number that is not within `2^60` either way.
 pub fn run_line(row: &ByteRecord) -> Result<RunLine, TraceFault>
     ensures value { says_run result ≡ run_line (fields_of row.now) }
     ensures range { IfOk result (λ run. All (λ n. unsigned_abs n ≤ 2 ^ 60) run.times) }

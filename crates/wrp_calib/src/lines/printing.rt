@@ -114,8 +114,8 @@ fn append_fault(alloc: Global, fault: CalibFault, text: &mut Vec<u8>) -> Result<
     text.extend_from_slice(line.as_bytes())
 }
 
-/// Appends the line of a record that did not come, by its word. `AllocError` where there is no
-/// memory: then nothing is known of `text`.
+/// Appends the line of a record that did not come, by its word. `AllocError` if memory runs out: then
+/// nothing is known of `text`.
 pub fn append_missing(alloc: Global, word: &str, text: &mut Vec<u8>) -> Result<(), AllocError>
     ensures { IfOk result (λ _. text.new.items ≡ text.old.items ++ missing_line word.now) }
 {
@@ -123,7 +123,7 @@ pub fn append_missing(alloc: Global, word: &str, text: &mut Vec<u8>) -> Result<(
     text.extend_from_slice(line.as_bytes())
 }
 
-/// Appends an answer, or what stands against it. `AllocError` where there is no memory: then
+/// Appends an answer, or the line that says why there is none. `AllocError` if memory runs out: then
 /// nothing is known of `text`.
 pub fn append_told(
     alloc: Global,

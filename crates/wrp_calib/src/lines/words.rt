@@ -37,7 +37,7 @@ fn among(kinds: &[RunKind], text: &[u8]) -> Option<RunKind>
     kinds.iter().copied().find(|kind| is_word_of(*kind, text))
 }
 
-/// The kind of runs that a word names. None exactly where it names none.
+/// The kind of runs that a word names. None if and only if it names none.
 pub fn kind_named(text: &[u8]) -> Option<RunKind>
     ensures { result ≡ kind_named text.now }
 {

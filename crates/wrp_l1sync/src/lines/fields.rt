@@ -21,7 +21,7 @@ const ALL_BITS: u64 = 7;
 // The greatest number of a message.
 const MOST_NUMBER: u64 = u32::MAX as u64;
 
-/// A number of ticks: 1 to `10^6`. `Number` with this place where the field is not that.
+/// A number of ticks: 1 to `10^6`. `Number` with this place if the field is not that.
 pub fn ticks_at(row: &ByteRecord, place: u32) -> Result<u32, TraceFault>
     requires { 0 < place }
     ensures value { result ≡ ticks_at place (fields_of row.now) }
@@ -31,7 +31,7 @@ pub fn ticks_at(row: &ByteRecord, place: u32) -> Result<u32, TraceFault>
     Ok(ticks as u32)
 }
 
-/// A time that passes, in tau: 1 to `2^62`. `Number` with this place where the field is not that.
+/// A time that passes, in tau: 1 to `2^62`. `Number` with this place if the field is not that.
 pub fn span_at(row: &ByteRecord, place: u32) -> Result<u64, TraceFault>
     requires { 0 < place }
     ensures value { result ≡ span_at place (fields_of row.now) }
@@ -40,8 +40,8 @@ pub fn span_at(row: &ByteRecord, place: u32) -> Result<u64, TraceFault>
     number_at(row, place, 1, MOST_TIME)
 }
 
-/// How long a message may be on its way, in tau: 0 to `2^62`. `Number` with this place where the
-/// field is not that.
+/// How long a message may be on its way, in tau: 0 to `2^62`. `Number` with this place if the field is
+/// not that.
 pub fn life_at(row: &ByteRecord, place: u32) -> Result<u64, TraceFault>
     requires { 0 < place }
     ensures value { result ≡ life_at place (fields_of row.now) }
@@ -60,7 +60,7 @@ fn bits_at(row: &ByteRecord, place: u32) -> Result<u8, TraceFault>
     Ok(bits as u8)
 }
 
-/// The number of a message: 0 to `2^32 - 1`. `Number` with this place where the field is not that.
+/// The number of a message: 0 to `2^32 - 1`. `Number` with this place if the field is not that.
 pub fn message_at(row: &ByteRecord, place: u32) -> Result<u32, TraceFault>
     requires { 0 < place }
     ensures { result ≡ message_at place (fields_of row.now) }
@@ -69,7 +69,7 @@ pub fn message_at(row: &ByteRecord, place: u32) -> Result<u32, TraceFault>
     Ok(number as u32)
 }
 
-/// An end: `a` is 0, `b` is 1. `Name` with this place where the field is neither.
+/// An end: `a` is 0, `b` is 1. `Name` with this place if the field is neither.
 pub fn end_at(row: &ByteRecord, place: u32) -> Result<u8, TraceFault>
     requires { 0 < place }
     ensures value { result ≡ end_at place (fields_of row.now) }

@@ -76,7 +76,7 @@ fn among(kinds: &[EventKind], word: &[u8]) -> Option<EventKind>
     kinds.iter().copied().find(|kind| is_word(*kind, word))
 }
 
-/// The kind of an event, by the first field of its line. None exactly where no kind has this word.
+/// The kind of an event, by the first field of its line. None if and only if no kind has this word.
 pub fn kind_of(word: &[u8]) -> Option<EventKind>
     ensures { result ≡ kind_of word.now }
 {

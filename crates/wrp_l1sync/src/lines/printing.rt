@@ -149,8 +149,8 @@ fn append_at(
     )
 }
 
-/// Appends the lines of what a pair answered to its last event. `AllocError` where there is no
-/// memory: then nothing is known of `text`.
+/// Appends the lines of what a pair answered to its last event. `AllocError` if memory runs out: then
+/// nothing is known of `text`.
 pub fn append_event(
     alloc: Global,
     pair: &L1Pair,
@@ -182,8 +182,8 @@ fn premise_name(premise: u8) -> &'static str
     }
 }
 
-/// Appends the line of a record that breaks a premise. `AllocError` where there is no memory: then
-/// nothing is known of `text`.
+/// Appends the line of a record that breaks a premise. `AllocError` if memory runs out: then nothing is
+/// known of `text`.
 pub fn append_breach(
     alloc: Global,
     number: u32,

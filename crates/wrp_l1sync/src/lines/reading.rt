@@ -20,9 +20,9 @@ const KIND: u32 = 1;
 // How many fields the first line has.
 const PARAM_FIELDS: usize = 5;
 
-/// The limits that the first line says, by its parts. A line that is not plain has none: `Fields`
-/// there; else `Kind` where the first field is another, `Fields` where there is another number of
-/// fields, and `Number` with the place of the first that is out of its range.
+/// The limits that the first line says, by its parts. A line that is not plain says none: `Fields`.
+/// Otherwise the fault is `Kind` if the first field is another word, `Fields` if the number of fields
+/// is wrong, and `Number` with the place of the first field that is out of its range.
 pub fn read_limits(line: &[u8], parts: Option<&ByteRecord>) -> Result<Limits, TraceFault>
     requires { IsSplit line.now parts }
     ensures value { result ≡ limits_read line.now }
@@ -35,9 +35,9 @@ pub fn read_limits(line: &[u8], parts: Option<&ByteRecord>) -> Result<Limits, Tr
     }
 }
 
-/// The event that a later line says, by its parts. A line that is not plain has none: `Fields`
-/// there; else `Kind` where the first field is no kind, `Fields` where there is another number of
-/// fields, and then `Number` or `Name` with the place of the first that says nothing.
+/// The event that a later line says, by its parts. A line that is not plain says none: `Fields`.
+/// Otherwise the fault is `Kind` if the first field is no kind, `Fields` if the number of fields is
+/// wrong, and then `Number` or `Name` with the place of the first field that says nothing.
 pub fn read_event(line: &[u8], parts: Option<&ByteRecord>) -> Result<L1Event, TraceFault>
     requires { IsSplit line.now parts }
     ensures value { result ≡ event_read line.now }

@@ -23,7 +23,7 @@ pub struct PlainRun {
 }
 
 impl PlainRun {
-    /// A world before the line of its first event. `AllocError` where there is no memory for it:
+    /// A world before the line of its first event. `AllocError` if there is no memory for it: then
     /// nothing is made.
     pub fn new(alloc: Global, start: PlainStart) -> Result<PlainRun, AllocError>
         requires set { HasRanges start.set }
@@ -37,8 +37,8 @@ impl PlainRun {
     }
 
     /// Takes the event that the record of this number says, and appends what it writes, or the line
-    /// that names the premise that it breaks. `AllocError` where there is no memory: then nothing
-    /// is known of `text`, nor whether the event was taken.
+    /// that names the premise that it breaks. `AllocError` if memory runs out: then nothing is known of
+    /// `text`, nor whether the event was taken.
     pub fn happen(
         &mut self,
         alloc: Global,
@@ -66,7 +66,7 @@ impl PlainRun {
     }
 }
 
-// How many ticks there are with this event, where there were so many before it.
+// How many ticks there are with this event, after this many before it.
 fn with_tick(ticks: u32, event: &PlainEvent) -> u32
     requires { ticks + 1 < 2 ^ 32 }
     ensures count { (events : List PlainEvent) → ticks ≡ tick_count events → result ≡ tick_count (event.now ∷ events) }

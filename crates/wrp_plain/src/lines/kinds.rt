@@ -1,9 +1,9 @@
-//! The kinds of lines behind the first.
+//! The kinds of lines after the first.
 ghost use Rattle.std.specs.Prelude.{◌≡◌};
 ghost use Rattle.std.specs.List.{find};
 ghost use Rattle.wrp_plain.specs.LineKinds.{word_of, field_count, kind_of, all_kinds, same_word};
 
-/// A kind of line behind the first.
+/// A kind of line after the first.
 #[derive(Clone, Copy, Default)]
 pub enum LineKind {
     /// Time passes.
@@ -60,8 +60,7 @@ fn among(kinds: &[LineKind], word: &[u8]) -> Option<LineKind>
     kinds.iter().copied().find(|kind| is_word(*kind, word))
 }
 
-/// The kind of a line behind the first, by its first field. None exactly where no kind has this
-/// word.
+/// The kind of a line after the first, by its first field. None if and only if no kind has this word.
 pub fn kind_of(word: &[u8]) -> Option<LineKind>
     ensures { result ≡ kind_of word.now }
 {

@@ -1,4 +1,4 @@
-//! The lines that are written of the events of a plain servo.
+//! The lines that are written for the events of a plain servo.
 ghost use Rattle.std.specs.Prelude.{◌≡◌, ◌++◌, IfOk};
 ghost use Rattle.std.specs.String.{string_bytes};
 ghost use Rattle.wrp_plain.specs.LineText.{report_line, step_line, report_text, step_text, seen_text};
@@ -7,9 +7,9 @@ use crate::event::PlainSeen;
 use crate::settings::PlainReport;
 use std::alloc::{AllocError, Global};
 
-/// Appends the lines of what an event gave, at this tick count: that of its report, where it has
-/// one, and behind it that of its command, where it is not 0. `AllocError` where there is no
-/// memory: then nothing is known of `text`.
+/// Appends the lines of what an event gave, at this tick count: the line of its report, if it has one,
+/// and after it the line of its command, if that is not 0. `AllocError` if memory runs out: then
+/// nothing is known of `text`.
 pub fn append_seen(
     alloc: Global,
     tick: u32,
@@ -22,7 +22,7 @@ pub fn append_seen(
     append_step(alloc, tick, seen.command, text)
 }
 
-// Appends the line of a report, where there is one.
+// Appends the line of a report, if there is one.
 fn append_report(
     alloc: Global,
     tick: u32,
@@ -55,7 +55,7 @@ fn report_line(
     format!(in alloc; "{tick} plain {est} {bound} true {off}\n")
 }
 
-// Appends the line of a command, where it is not 0.
+// Appends the line of a command, if it is not 0.
 fn append_step(alloc: Global, tick: u32, by: i64, text: &mut Vec<u8>) -> Result<(), AllocError>
     ensures { IfOk result (λ _. text.new.items ≡ text.old.items ++ step_text tick by) }
 {

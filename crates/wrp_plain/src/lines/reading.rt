@@ -45,7 +45,7 @@ const MOST_START: i64 = 1 << 62;
 // The greatest true offset of a line, either sign, in tau.
 const MOST_OFFSET: i128 = 1 << 94;
 
-// The number from `least` to `greatest` in the field of a place, where it may be below 0.
+// The number from `least` to `greatest`, which may be below 0, in the field of a place.
 fn wide_at(row: &ByteRecord, place: u32, least: i128, greatest: i128) -> Result<i128, TraceFault>
     requires place { 0 < place }
     requires least { unsigned_abs least < 2 ^ 127 - 1 }
@@ -153,9 +153,9 @@ fn is_param(word: &[u8]) -> bool
     word == b"param".as_slice()
 }
 
-/// What the first line says, by its parts. A line that is not plain has none: `Fields` there; else
-/// `Kind` where the first field is another, `Fields` where there is another number of fields, and
-/// `Number` with the place of the first that is out of its range.
+/// What the first line says, by its parts. A line that is not plain says nothing: `Fields`. Otherwise
+/// the fault is `Kind` if the first field is another word, `Fields` if the number of fields is wrong,
+/// and `Number` with the place of the first field that is out of its range.
 pub fn read_start(line: &[u8], parts: Option<&ByteRecord>) -> Result<PlainStart, TraceFault>
     requires { IsSplit line.now parts }
     ensures value { result ≡ start_read line.now }
@@ -215,7 +215,7 @@ fn fields_of_kind(kind: LineKind, row: &ByteRecord) -> Result<PlainEvent, TraceF
     }
 }
 
-// The event that the fields of a line behind the first say.
+// The event that the fields of a line after the first say.
 fn event_of(row: &ByteRecord) -> Result<PlainEvent, TraceFault>
     ensures value { result ≡ event_of (fields_of row.now) }
     ensures fields { IfOk result HasFields }
@@ -227,9 +227,9 @@ fn event_of(row: &ByteRecord) -> Result<PlainEvent, TraceFault>
     }
 }
 
-/// The event that a line behind the first says, by its parts. A line that is not plain has none:
-/// `Fields` there; else `Kind` where the first field is no kind, `Fields` where there is another
-/// number of fields, and `Number` with the place of the first that is out of its range.
+/// The event that a line after the first says, by its parts. A line that is not plain says none:
+/// `Fields`. Otherwise the fault is `Kind` if the first field is no kind, `Fields` if the number of
+/// fields is wrong, and `Number` with the place of the first field that is out of its range.
 pub fn read_event(line: &[u8], parts: Option<&ByteRecord>) -> Result<PlainEvent, TraceFault>
     requires { IsSplit line.now parts }
     ensures value { result ≡ event_read line.now }

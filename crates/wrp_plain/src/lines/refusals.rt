@@ -6,8 +6,8 @@ use crate::event::PlainBroken;
 use std::alloc::{AllocError, Global};
 use wrp_records::{Refusal, Taken, append_broken_words};
 
-/// Appends the line of a record whose event breaks a premise. `AllocError` where there is no
-/// memory: then nothing is known of `text`.
+/// Appends the line of a record whose event breaks a premise. `AllocError` if memory runs out: then
+/// nothing is known of `text`.
 pub fn refuse_broken(
     alloc: Global,
     number: u32,

@@ -1,4 +1,4 @@
--- What is written of an event is what looking back says.
+-- What is written for an event is what looking back says.
 use Rattle.std.proofs.Common.{◌∷◌, refl}
 use Rattle.wrp_l1sync.proofs.LineTakingLaws.{took_event}
 use Rattle.wrp_l1sync.proofs.lines.happen.Goals as goal

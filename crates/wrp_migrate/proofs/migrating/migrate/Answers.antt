@@ -1,4 +1,4 @@
--- What stands at the end of the input, and where it is too long.
+-- What is left at the end of the input, and when the input is too long.
 use Rattle.std.proofs.Common.{◌≡◌, ◌⊎◌, ◌∙◌, inl, inr, true, false, ℕ, List, refl, sym, subst}
 use Rattle.wrp_migrate.specs.Input.{GivesAnswer}
 use Rattle.wrp_migrate.proofs.Answering.{never_read, wrote_answer, wrote_large}

@@ -1,4 +1,4 @@
--- The lists of marks are those of the two roles, and judging them is Ok.
+-- The lists of marks are the lists of the two roles, and judging them is Ok.
 use Rattle.wrp_base.specs.declared.link.Role.TheVariants.{Master, Slave}
 use Rattle.wrp_pcap.proofs.Judging.{judged_slave, judged_master, judges_same}
 use Rattle.wrp_pcap.proofs.histories.marks.Goals as goal

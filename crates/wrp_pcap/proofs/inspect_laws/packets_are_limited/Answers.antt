@@ -1,4 +1,4 @@
--- By what is due for a whole capture, and for one of too many packets.
+-- By what is expected for a whole capture, and for one of too many packets.
 use Rattle.std.proofs.Common.{refl, arith}
 use Rattle.wrp_pcap.proofs.inspect_laws.packets_are_limited.Goals as goal
 

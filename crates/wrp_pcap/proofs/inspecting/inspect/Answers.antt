@@ -1,4 +1,4 @@
--- The octets of the header, and those behind it.
+-- The octets of the header, and the octets after it.
 use Rattle.std.proofs.Common.{[], inl, inr, refl, true, false, arith}
 use Rattle.std.proofs.KnownBytes.{Appends-nil}
 use Rattle.wrp_pcap.specs.declared.capture.CaptureFault.TheVariants.{Magic}

@@ -1,4 +1,4 @@
--- What stands behind the header is inspected, or the header is refused.
+-- What follows the header is inspected, or the header is refused.
 use Rattle.std.proofs.Common.{ℕ, List, [], length, inl, refl, ap, sym, subst, arith, append-nil, length-drop, false}
 use Rattle.std.proofs.KnownBytes.{Consumes-nil}
 use Rattle.wrp_records.specs.After.{After}

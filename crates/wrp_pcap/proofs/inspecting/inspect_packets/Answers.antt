@@ -1,4 +1,4 @@
--- Each piece goes on, and each end is told.
+-- Each piece goes on, and each end is reported.
 use Rattle.std.proofs.Common.{◌∙◌, true, false, ℕ, List, refl, sym, subst, arith}
 use Rattle.wrp_records.specs.Engine.{Finishes}
 use Rattle.wrp_records.specs.Taking.{AppendsPart}

@@ -1,4 +1,4 @@
--- The numbers before this one stand behind the text.
+-- The numbers before this one follow the text.
 use Rattle.std.proofs.Common.{◌≡◌, ◌++◌, map, take}
 use Rattle.std.specs.Fmt.{decimal}
 use Rattle.wrp_pcap.specs.PacketLines.{spaced}

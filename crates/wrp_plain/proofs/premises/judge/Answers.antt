@@ -1,4 +1,4 @@
--- The first premise that an event breaks is told.
+-- The first premise that an event breaks is reported.
 use Rattle.std.proofs.Common.{◌≡◌, ℤ, pos, ◌^◌, ◌≤◌, ◌≤ℤ◌, unsigned_abs, to_z, of_z, rules, ap₂, ◌∙◌, subst, ap, sym, arith}
 use Rattle.std.specs.Int.{w64, w128}
 use Rattle.std.proofs.lemmas.Int.{ints, to_z-of_z, fits_signed_from_abs}

@@ -1,4 +1,4 @@
--- The seed is that of the only value.
+-- The seed is the seed of the only value.
 use Rattle.std.proofs.Common.{◌∙◌, refl, sym, ap, codes, option_map}
 use Rattle.wrp_commands.specs.Request.{Loop, OnNetwork}
 use Rattle.wrp_words.specs.Fields.{seed_of}

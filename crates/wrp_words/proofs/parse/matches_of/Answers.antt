@@ -1,4 +1,4 @@
--- clap takes the words, and its matches are those of the command line.
+-- clap takes the words, and its matches are the matches of the command line.
 use Rattle.std.proofs.Common.{ap, ◌≡◌, ◌∙◌}
 use Rattle.std.proofs.lemmas.Result.{IfErr-weaker, IfOk-weaker}
 use Rattle.clap.specs.Words.{app_of, is_simple, subcommand_of, takes}

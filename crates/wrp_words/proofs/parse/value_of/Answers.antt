@@ -1,4 +1,4 @@
--- The value of the option is that of the rows of the command that was found.
+-- The value of the option is the value in the rows of the command that was found.
 use Rattle.std.proofs.Common.{ap, sym, ◌∙◌}
 use Rattle.std.specs.Prelude.{option_and_then}
 use Rattle.clap.proofs.WalkLemmas.{first_value-rows}

@@ -1,4 +1,4 @@
--- The kept ends give the answer that is due, and it tells the truth.
+-- The kept ends give the expected answer, and it is true.
 use Rattle.std.proofs.Common.{◌∙◌, sym, subst}
 use Rattle.wrp_calib.proofs.Telling.{answer_at-is}
 use Rattle.wrp_calib.proofs.Holding.{answer_of-tells}

@@ -1,4 +1,4 @@
--- What is told at the end is due after the lines that were taken.
+-- What is reported at the end is expected after the lines that were taken.
 use Rattle.std.proofs.Common.{subst}
 use Rattle.std.proofs.lemmas.Result.{IfOk-weaker}
 use Rattle.wrp_records.specs.declared.machine.Closing.{Closing}

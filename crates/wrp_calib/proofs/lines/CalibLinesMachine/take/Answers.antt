@@ -1,4 +1,4 @@
--- A line more is taken, and nothing is written of it; or the line of its fault is.
+-- One more line is taken, and nothing is written for it; or the line of its fault is written.
 use Rattle.std.proofs.Common.{List, ℕ, ◌++◌, ◌∙◌, ap}
 use Rattle.std.proofs.lemmas.Result.{IfOk-weaker}
 use Rattle.wrp_calib.proofs.LineLemmas.{refuses_so}

@@ -1,4 +1,4 @@
--- The call fails exactly where it is listed or the link is used up, and moves its frame in the queue.
+-- The call fails if and only if it is listed or the link is used up, and moves its frame in the queue.
 use Rattle.std.proofs.Common.{inl, inr, ap, subst, sym, rules}
 use Rattle.wrp_io.specs.Calls.{IsListed}
 use Rattle.wrp_io.specs.FramesWaiting.{IsNext}

@@ -1,4 +1,4 @@
--- A write fails exactly at a listed call, and where it has octets and the room is used up.
+-- A write fails if and only if the call is listed, or it has octets and the room is used up.
 use Rattle.std.proofs.Common.{◌≡◌, inl, inr, ◌<◌, ◌≤◌, length, true, ap, subst, rules}
 use Rattle.wrp_io.specs.Calls.{IsListed}
 use Rattle.wrp_io.proofs.memory_sink.MemSinkSink.write.Goals as goal

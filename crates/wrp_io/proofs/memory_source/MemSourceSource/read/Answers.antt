@@ -1,4 +1,4 @@
--- What was given stood at the front of what was left.
+-- What was given was the front of what was left.
 use Rattle.std.proofs.Common.{◌≡◌, ◌∙◌, drop, length, take, min, ap, arith}
 use Rattle.wrp_io.proofs.Reading.{given_and_left, none_at_the_end}
 use Rattle.wrp_io.proofs.memory_source.MemSourceSource.read.Goals as goal

@@ -1,4 +1,4 @@
--- The event goes in front of those before, what looking back finds is answered, and an end that is up
+-- The event goes in front of the earlier ones, what looking back finds is answered, and an end that is up
 -- has a peer that sent what it says.
 use Rattle.std.proofs.Common.{◌≡◌, ◌∷◌}
 use Rattle.std.proofs.lemmas.Result.{IfOk-weaker}

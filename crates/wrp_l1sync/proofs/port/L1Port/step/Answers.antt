@@ -1,4 +1,4 @@
--- The input goes in front of those before, and what looking back finds is answered.
+-- The input goes in front of the earlier ones, and what looking back finds is answered.
 use Rattle.std.proofs.Common.{◌∙◌, ap}
 use Rattle.wrp_l1sync.proofs.PortLaws.{Adds-input, out_looked_back, keeps_settings}
 use Rattle.wrp_l1sync.proofs.port.L1Port.step.Goals as goal

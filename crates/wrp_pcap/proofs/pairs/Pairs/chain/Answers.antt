@@ -1,4 +1,4 @@
--- Where the table has no entry, the chain is that of no messages.
+-- If the table has no entry, the chain is the chain of no messages.
 use Rattle.wrp_pcap.proofs.Table.{none_found, shown_empty}
 use Rattle.wrp_pcap.proofs.pairs.Pairs.chain.Goals as goal
 

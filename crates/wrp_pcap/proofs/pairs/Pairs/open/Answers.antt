@@ -1,4 +1,4 @@
--- A chain of no messages that was put where there was none.
+-- A chain of no messages that was put in because there was none.
 use Rattle.std.proofs.Common.{sym}
 use Rattle.wrp_pcap.proofs.Table.{none_at, puts_at, put_empty}
 use Rattle.wrp_pcap.specs.declared.pairs.Pairs.{Pairs}

@@ -1,4 +1,4 @@
--- What is told is the verdict that is due, and what is kept stands for one message more.
+-- The verdict is the expected one, and what is kept stands for one more message.
 use Rattle.std.proofs.Common.{◌∙◌, refl}
 use Rattle.wrp_pcap.proofs.Standing.{told_is, stands_for_more}
 use Rattle.wrp_pcap.proofs.pairs.Pairs.take.Goals as goal

@@ -1,4 +1,4 @@
--- The line of the command stands behind that of the report.
+-- The line of the command follows the line of the report.
 use Rattle.std.proofs.Common.{◌≡◌, ◌∙◌, ◌++◌, ℕ, List, ap, append_assoc, to_z, of_z, rules}
 use Rattle.std.specs.Int.{w64, w128}
 use Rattle.std.proofs.lemmas.Int.{to_z-of_z}

@@ -1,4 +1,4 @@
--- Where a measurement is kept there is a report.
+-- If a measurement is kept there is a report.
 use Rattle.std.proofs.Common.{sym, subst, IsSome, Option}
 use Rattle.wrp_plain.specs.declared.settings.PlainReport.{PlainReport}
 use Rattle.wrp_plain.specs.StandsFor.{marks_at}
