@@ -15,7 +15,7 @@ pub fn name_of_node(cfg: &NetCfg, node: u8) -> &str
     cfg.nodes[usize::from(node)].name.as_str()
 }
 
-/// How a link word is written. No port has the word of IDLE; it would be that of plain PTP.
+/// How a link word is written. No port has the word of IDLE; it would be the word of plain PTP.
 pub fn text_of_link(word: LinkWord) -> &'static str
     ensures { result.now ≡ link_word word }
 {
