@@ -58,7 +58,7 @@ impl Scene {
         self.duration
     }
 
-    /// How many nodes it is about.
+    /// How many nodes it covers.
     pub fn node_count(&self) -> usize
         ensures { result ≡ length self.now.offsets }
     {
