@@ -24,7 +24,7 @@ abbrev pub IsOverrun : Plan → Going → Type 0
 IsOverrun x (On l) = NextIsTooMany x l
 IsOverrun x (Full l) = Unit {0}
 
--- a loop came to where it is over, or to an event whose number is too great
+-- a loop is over, or came to an event whose number is too great
 abbrev pub EndsOver : Plan → List LinkCall → Going → Type 0
 EndsOver x calls last = Loops x calls last × IsOver x last
 

@@ -14,7 +14,7 @@ abbrev pub breaks_by : Accepting → Breaking
 breaks_by bars lines BadCalib text = bars lines text
 breaks_by bars lines status text = ⊥
 
--- no lines give no answer
+-- no lines fail to give an answer
 abbrev pub bars_none : Accepting
 bars_none lines text = ⊥
 
