@@ -222,7 +222,7 @@ wholly site inputs last lines are few recorded replayed =
 
 -- One run
 
--- the audit and the emission, in one network whose names stand without their unused room
+-- the audit and the emission, in one network whose names are without their unused room
 record OneOfBoth (input name audit records : List ℕ) : Type 0 where
   net : Network
   site : LineSetting

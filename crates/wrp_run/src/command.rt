@@ -84,7 +84,7 @@ fn run_command<S: Source, K: Sink, N: Link>(
     }
 }
 
-/// Runs the command that the words name: reads the source as a stream, writes what is due to the sink
+/// Runs the command that the words name: reads the source as a stream, writes the expected output to the sink
 /// before more is read, and answers the status.
 pub fn run<S: Source, K: Sink, N: Link>(
     alloc: Global,

@@ -21,7 +21,7 @@ use wrp_records::{Reader, Status, TOO_LARGE_LINE, answer, refuse_network};
 /// The network that comes before the records, and its text.
 #[derive(Drop)]
 pub struct Front {
-    /// The network, on the heap, since it is large.
+    /// The network, on the heap, because it is large.
     pub net: Box<Network>,
     /// Its text.
     pub text: Vec<u8>,

@@ -1,4 +1,4 @@
--- What the simulation of a network writes: the lines of some kinds of its nodes' steps, and at the end one
+-- What the simulation of a network writes: lines of some kinds for its nodes' steps, and at the end one
 -- line for each node, which sums up its run (this project's profile).
 use Rattle.std.specs.Prelude.{ℕ, ℤ, ◌==◌, Bool, true, false, if◌then◌else◌, min, Some, List, [], ◌∷◌, ◌++◌, filter, length, map, unsigned_abs}
 use Rattle.std.specs.List.{flat_map}
