@@ -12,7 +12,7 @@ use Rattle.wrp_asked.specs.Answer.{Answer}
 use Rattle.wrp_asked.specs.Input.{network_text}
 use Rattle.wrp_asked.specs.Tasks.{IsAuditing, IsEmission, IsReplay}
 
--- the text describes a network with a node of this name
+-- the text describes a network that has a node with this name
 pub record IsListed (text name : List ℕ) : Type 0 where
   pub net : Network
   pub reads : IsReadingOf text (Ok net)

@@ -20,7 +20,7 @@ is_role _ _ = false
 abbrev pub touches : ℕ → LinkCfg → Bool
 touches n link = (link.upper == n) || (link.lower == n)
 
--- the link of this number is one of the node's
+-- the link with this number is one of the node's
 abbrev pub is_at_node : ℕ → List LinkCfg → ℕ → Bool
 is_at_node n links k = option_map_or (touches n) (slice_get links k) false
 

@@ -25,7 +25,7 @@ pub struct Frames {
     horizon: Tau,
     // When each was put out.
     sent: Vec<Tau>,
-    // Those that are on a fibre or young, by their numbers.
+    // The frames that are on a fibre or young, by their numbers.
     kept: BTreeMap<u32, Departed>,
     // When the young ones were put out, with their numbers.
     ages: BTreeSet<(Tau, u32)>,

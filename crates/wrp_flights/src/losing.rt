@@ -17,11 +17,11 @@ use wrp_network::LinkCfg;
 /// Which frames on fibres are lost.
 #[derive(Clone, Copy)]
 pub enum Loss {
-    /// Those on the fibre of this link.
+    /// The frames on the fibre of this link.
     Link(u8),
-    /// Those on the fibres of this node's links.
+    /// The frames on the fibres of this node's links.
     Node(u8),
-    /// Those that departed before the frame with this number, over this link and from this end.
+    /// The frames that departed before the one with this number, over this link and from this end.
     Older(u32, u8, Role),
 }
 

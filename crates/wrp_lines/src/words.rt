@@ -7,7 +7,7 @@ use wrp_base::{LinkState, LinkWord, ServoState};
 use wrp_data::Reason;
 use wrp_network::NetCfg;
 
-/// The name of the node of this number.
+/// The name of the node with this number.
 pub fn name_of_node(cfg: &NetCfg, node: u8) -> &str
     requires { node < node_count cfg.now }
     ensures { result.now ≡ name_at cfg.now node }
@@ -50,7 +50,7 @@ pub fn text_of_servo(state: ServoState) -> &'static str
     }
 }
 
-/// The name of the reason of this number, 1 to 15.
+/// The name of the reason with this number, 1 to 15.
 #[tactic(auto, using(crate::proofs::Reasons::word_of_number))]
 pub fn name_of_reason(number: u8) -> &'static str
     requires least { 1 ≤ number }

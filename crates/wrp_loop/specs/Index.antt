@@ -18,7 +18,7 @@ use Rattle.wrp_loop.specs.Datagrams.{end_number, handed_in}
 abbrev pub no_choice : Choice
 no_choice = record { least = None; greatest = None }
 
--- the lesser and the greater of two numbers, of which the first may be missing
+-- the lesser and the greater of two numbers, the first of which may be missing
 abbrev pub lesser : Option ℕ → ℕ → ℕ
 lesser found number = option_map_or (λ other. min other number) found number
 
@@ -50,7 +50,7 @@ has_octets s w octets number = option_map_or (λ found. pointwise nat_eq found o
 abbrev pub fits : Setting → WorldAt → (from : ℕ) → List ℕ → Came → Bool
 fits s w from octets c = (c.from == from) && has_octets s w octets c.number
 
--- a frame of this number is among these
+-- a frame with this number is among these
 abbrev pub has_number : List Came → ℕ → Bool
 has_number [] number = false
 has_number (c ∷ came) number = (c.number == number) || has_number came number

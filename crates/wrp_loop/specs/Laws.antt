@@ -57,7 +57,7 @@ OneLoop =
     (first ≡ other) × AreOneLoop x a b
 
 -- among all its lines, the marked ones, without their marks, are the lines of its events; the others are what an
--- audit of these events writes, and then the line of forged datagrams; the lines of counters are no lines of events
+-- audit of these events writes, and then the line of forged datagrams; the lines of counters are not lines of events
 abbrev pub LoopIsAudited : Type 0
 LoopIsAudited =
     (s : Setting) (events : List Happened) (counts : List (List ℕ)) (forged : ℕ) → IsNetwork s → NoneIsMarked counts →

@@ -142,7 +142,7 @@ pub record FrameLeftOut (x : Plan) (l : LoopAt) (next : Going) : Type 0 where
   pub gives : GivesNext x l (Deliver number) new
   pub leads : next ≡ On (without_frame number new l)
 
--- a frame of this number arrives by this way, and has these octets
+-- a frame with this number arrives by this way, and has these octets
 pub record FrameArrives (x : Plan) (l : LoopAt) (number : ℕ) (way : Way) (octets : List ℕ) : Type 0 where
   pub raw : Raw
   pub new : SimAt

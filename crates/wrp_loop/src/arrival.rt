@@ -23,7 +23,7 @@ fn are_octets(octets: &[u8])
     let _count = octets.len();
 }
 
-// The octets of a frame are, and a frame has room for 256.
+// The octets of a frame are below 256, and a frame has room for 256 octets.
 fn frame_fits(frame: &Frame)
     ensures { IsFrame frame.now }
 {

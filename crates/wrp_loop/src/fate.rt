@@ -15,7 +15,7 @@ use wrp_frame::decode;
 pub enum Fate {
     /// It is this frame, which is handed over.
     Handed(u32),
-    /// It says a message of the peer, and is no frame of the peer.
+    /// It says a message of the peer, and is not a frame of the peer.
     Forged,
     /// It is neither.
     Noisy,

@@ -77,7 +77,7 @@ impl Choice {
     }
 }
 
-// The lesser of two numbers, of which the first may be missing.
+// The lesser of two numbers, the first of which may be missing.
 fn lesser(found: Option<u32>, number: u32) -> u32
     ensures { result ≡ lesser found number }
 {

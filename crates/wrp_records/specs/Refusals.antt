@@ -73,7 +73,7 @@ pub record RefusesLine (fault : TraceFault) (number : ℕ) (old new : List ℕ) 
   pub cause : is_memory fault ≡ false
   pub line : new ≡ old ++ bad_trace_line number fault
 
--- the last line of output if a record, counted from 1, breaks a premise of this number and name: the value
+-- the last line of output if a record, counted from 1, breaks the premise with this number and name: the value
 -- shown, and its bound
 abbrev pub broken_words : ℕ → ℕ → List ℕ → ℤ → ℤ → List ℕ
 broken_words number premise name shown bound =

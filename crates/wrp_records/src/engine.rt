@@ -88,7 +88,7 @@ fn most_at(number: u32) -> usize
     if number == u32::MAX { 0 } else { LINE_LIMIT }
 }
 
-// What a line that came after so many records is.
+// What a line is that came after so many records.
 fn came(line: &[u8], number: u32) -> NextRecord
     ensures line { result ≡ NextRecord.Line
         → IsWithin line.now × (number + 1 < number_limit) }
@@ -102,7 +102,7 @@ fn came(line: &[u8], number: u32) -> NextRecord
     }
 }
 
-// What the reader answered after so many records.
+// What the reader answered, when so many records came before.
 fn answered(next: Next, line: &[u8], number: u32) -> NextRecord
     ensures line { result ≡ NextRecord.Line
         → (next ≡ Next.Line) × IsWithin line.now × (number + 1 < number_limit) }
@@ -180,7 +180,7 @@ pub fn append_large(alloc: Global, waiting: &mut Vec<u8>, number: u64) -> Result
     Ok(())
 }
 
-// Names the record after so many, which is too large.
+// Names the record that comes after so many and is too large.
 fn tell_large(alloc: Global, waiting: &mut Vec<u8>, number: u32) -> Ended
     ensures { TellsLarge (number + 1) waiting.old.items waiting.new.items result }
 {

@@ -124,7 +124,7 @@ fn side(alloc: Global, value: Tau) -> Result<String, AllocError>
     format!(in alloc; "{value}")
 }
 
-// The line of a record that breaks a premise of this number and name.
+// The line of a record that breaks the premise with this number and name.
 fn broken(
     alloc: Global,
     number: u32,
@@ -143,7 +143,7 @@ fn broken(
     format!(in alloc; "broken {number} {premise} {name} {shown} {bound}\n")
 }
 
-/// Appends the line of a record that breaks a premise of this number and name, with both sides of
+/// Appends the line of a record that breaks the premise with this number and name, with both sides of
 /// the comparison that fails. `AllocError` if memory runs out: then nothing is known of `text`.
 pub fn append_broken_words(
     alloc: Global,

@@ -60,7 +60,7 @@ fn append_port<F: Fn(i64) -> i64>(
     Ok(())
 }
 
-// Whether the node has a port of this number.
+// Whether the node has a port with this number.
 fn has_port(replayed: Replayed<'_>, port: u16) -> bool
     ensures { result ≡ has_port (line_setting_at replayed.entry) port }
 {

@@ -174,7 +174,7 @@ fn replay_behind<S: Source, K: Sink>(
     replay(alloc, Replayed { net, node }, reader, source, sink)
 }
 
-// Answers that the network in front of the records has no node of this name.
+// Answers that the network before the records has no node with this name.
 fn lacks_node<S: Source, K: Sink>(
     words: &[&str],
     name: &str,

@@ -19,7 +19,7 @@ is_drawn permille state = lt_z (drawn_from (pos 0) (pos 999) state) (pos permill
 abbrev pub drawn_zeros : (beat state : ℕ) → ℕ
 drawn_zeros beat state = unsigned_abs (pos 32 +ℤ drawn_from (neg_ℤ (pos beat)) (pos beat) state)
 
--- so many bits 0, and the rest of 64 bits 1
+-- this many bits 0, and the rest of 64 bits 1
 abbrev pub bits_behind : ℕ → ℕ
 bits_behind zeros = 2 ^ (64 - zeros) - 1
 

@@ -40,7 +40,7 @@ abbrev pub put : Bool → Event → Option Event
 put true event = Some event
 put false event = None
 
--- an event in which so much true time passes
+-- an event in which this much true time passes
 abbrev pub IsPassOf : ℤ → Event → Type 0
 IsPassOf dt (Pass passing drifts fibres) = passing ≡ dt
 IsPassOf dt _ = ⊥

@@ -36,7 +36,7 @@ RestsAt rest (mark ∷ marks) (x ∷ changes) = (mark ≡ false → x ≡ rest) 
 abbrev pub NoneMarked : List Bool → Type 0
 NoneMarked marks = AllByRecursion (λ mark. mark ≡ false) marks
 
--- whether the one of this number is marked
+-- whether the node or link with this number is marked
 abbrev pub is_marked : List Bool → ℕ → Bool
 is_marked marks n = unwrap_or (slice_get marks n) false
 

@@ -38,7 +38,7 @@ fn has_name(module: &ListedModule, name: &[u8]) -> bool
     module.name().as_bytes() == name
 }
 
-// The listed module of a name.
+// The listed module with a name.
 fn listed<'a>(modules: &'a [ListedModule], name: &[u8]) -> Option<&'a ListedModule>
     ensures { option_map (λ m. m.now) result ≡ find (λ m. same_name m.name name.now) modules.now }
 {
@@ -85,7 +85,7 @@ fn same_module(a: Module, b: Module) -> bool
     a.tx == b.tx && (a.rx == b.rx && (a.transition == b.transition && a.err == b.err))
 }
 
-// Whether these are the numbers of a module of these values.
+// Whether these are the numbers of a module with these values.
 fn has_values(entry: Option<Module>, values: Module) -> bool
     ensures { result ≡ has_values values entry }
 {

@@ -57,7 +57,7 @@ fn soonest_due(now: Tau, other: Tau, due: Option<(u32, Tau)>) -> Tau
     }
 }
 
-// Whether there is a node of this number, and it is up.
+// Whether there is a node with this number, and it is up.
 fn is_up_at<F: Fn(i64) -> i64>(world: &World<F>, n: usize) -> bool
     requires { IsValid F.pre F.post world.now }
     ensures { (s : Setting) (w : WorldAt) → StandsFor F.post s w world.now → result ≡ true → (w.clock n).up ≡ true }

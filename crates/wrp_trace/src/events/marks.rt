@@ -96,7 +96,7 @@ pub fn still_fibres(links: &[LinkCfg]) -> Moves
     moves
 }
 
-// Whether the one of this number is marked.
+// Whether the node or link with this number is marked.
 fn is_marked(marks: &[bool], n: u8) -> bool
     requires { n < length marks.now }
     ensures { result ≡ is_marked marks.now n }
@@ -157,7 +157,7 @@ fn finds_each(cfg: &NetCfg) -> bool
     finds_nodes(cfg) && finds_links(cfg)
 }
 
-// The node of this number, if it has this name.
+// The node with this number, if it has this name.
 #[tactic(auto, using(crate::proofs::PlaceNames::next_node_is))]
 fn node_here(cfg: &NetCfg, at: usize, name: &[u8]) -> Option<u8>
     requires { FindsEach cfg.now }
@@ -170,7 +170,7 @@ fn node_here(cfg: &NetCfg, at: usize, name: &[u8]) -> Option<u8>
     }
 }
 
-// The link of this number, if it has this name.
+// The link with this number, if it has this name.
 #[tactic(auto, using(crate::proofs::PlaceNames::next_link_is))]
 fn link_here(cfg: &NetCfg, at: usize, name: &[u8]) -> Option<u8>
     requires { FindsEach cfg.now }
@@ -209,7 +209,7 @@ fn write_move(event: &mut Event, l: usize, moving: (i64, i64))
     }
 }
 
-// The one of this number is marked, or is not.
+// The node or link with this number is marked, or is not.
 fn set_mark<const N: usize>(marks: &mut ArrayVec<bool, N>, n: usize, mark: bool)
     requires { n < length marks.old.items }
     ensures { marks.new.items ≡ slice_set marks.old.items n mark }
@@ -217,7 +217,7 @@ fn set_mark<const N: usize>(marks: &mut ArrayVec<bool, N>, n: usize, mark: bool)
     marks[n] = mark;
 }
 
-// The clock of this number is not marked, and does not move.
+// The clock with this number is not marked, and does not move.
 fn forget_drift(marks: &mut ArrayVec<bool, 64>, event: &mut Event, n: usize)
     requires marks { n < length marks.old.items }
     requires drifts { n < length (drifts_in event.old) }

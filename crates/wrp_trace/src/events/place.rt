@@ -89,7 +89,7 @@ impl EventPlace {
     }
 }
 
-// So much time passes.
+// This much time passes.
 #[tactic(auto, using(crate::proofs::PlaceParts::no_pass_there))]
 fn write_span(event: &mut Event, span: i64)
     requires pass { AsPass event.old }
