@@ -79,7 +79,7 @@ fn step<F: Fn(i64) -> i64>(
     Ok(Stepped::Event)
 }
 
-// Writes what waits, if that is enough. Answers whether all that was written was taken.
+// Writes what waits, if it is long enough. Answers whether all that was written was taken.
 fn flush<K: Sink>(sink: &mut K, text: &mut Vec<u8>) -> bool
     ensures whole { result ≡ true
         → ((text.new.items ≡ text.old.items) × (K.held sink.new ≡ K.held sink.old))

@@ -236,7 +236,7 @@ change_counts cfg place marks drifts moves more text h e =
     (λ k is. subst (λ c. k < c) (sym (fibres_said cfg marks drifts moves h)) (within (λ (link : LinkCfg). same_name link.name.bytes (before 61 text)) cfg.links.items k is))
     (sym e)
 
--- and no more than there are
+-- and something is said of no more than there are
 pub few_by : (cfg : NetCfg) (marks : Marks) (drifts : List ℤ) (moves : List (ℤ × ℤ)) → Holds cfg marks drifts moves → node_count cfg ≤ 64 → link_count cfg ≤ 63
     → said_count (said_by marks drifts moves) ≤ 127
 few_by cfg marks drifts moves h nodes links =
