@@ -1,4 +1,4 @@
--- Lines that say events, each accepted in its turn, are an audit, and the whole of it is due.
+-- Lines that say events, each accepted in its turn, are an audit, and the whole of it is expected.
 use Rattle.std.proofs.Common.{inl, refl, sym, subst, ℕ, List, [], ◌∷◌, ◌++◌, append_assoc, map}
 use Rattle.std.proofs.lemmas.List.{append-nil}
 use Rattle.wrp_network_text.specs.SameAnswer.{ReadingIsAccepted}
@@ -18,14 +18,14 @@ use Rattle.wrp_answer_laws.proofs.Auditing.{IsOfNetwork, no_events, one_more}
 use Rattle.wrp_projection_laws.proofs.Projected.{all_said}
 use Rattle.wrp_answer_laws.specs.Accepted.{AcceptedIsAudit, AcceptedIsDone, EachIsAccepted, IsAccepted, RunOfLinesIsAudit}
 
--- the setting of a text that is read is that of an accepted network
+-- the setting of a text that is read is the setting of an accepted network
 pub of_text : ReadingIsAccepted → (text : List ℕ) (s : Setting) → IsSettingOf text s → IsOfNetwork s
 of_text accepted text s setting = subst IsOfNetwork (sym setting.is) (record { accepted = accepted text setting.net setting.reads; set = λ n. refl })
 
 abbrev Audited : Setting → List (List ℕ) → Type 0
 Audited s lines = (events : List Happened) × IsAudit s lines events
 
--- a line more
+-- one more line
 accepted_more : (s : Setting) → IsOfNetwork s → (front : List (List ℕ)) (line : List ℕ) (events : List Happened) → IsAudit s front events
     → IsAccepted s front line → Audited s (front ++ line ∷ [])
 accepted_more s net front line events audit accepted =

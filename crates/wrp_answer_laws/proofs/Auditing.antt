@@ -1,5 +1,5 @@
--- Events of lines, each accepted in its turn, are an audit; and for the lines of each audit, and of the inputs that a node is
--- given in it, an answer is due.
+-- Events of lines, each accepted in its turn, are an audit; and an answer is expected for the lines of each audit,
+-- and for the inputs that a node is given in it.
 use Rattle.std.proofs.Common.{◌≡◌, ◌⊎◌, inl, inr, refl, ap, ℕ, ◌+◌, List, [], ◌∷◌, ◌++◌, flat_map, length, Some, Result, Ok, Err}
 use Rattle.wrp_base.specs.declared.fault.TraceFault.{TraceFault}
 use Rattle.wrp_base.specs.declared.message.PtpMsg.{PtpMsg}
@@ -37,7 +37,7 @@ pub record IsOfNetwork (s : Setting) : Type 0 where
   pub accepted : IsAccepted s.cfg s.db
   pub set : (n : ℕ) → s.set n ≡ set_of s.cfg n
 
--- One event more
+-- One more event
 
 pub one_more : (s : Setting) → IsOfNetwork s → (lines : List (List ℕ)) (line : List ℕ) (events : List Happened) (h : Happened) → IsAudit s lines events
     → event_read s.cfg line ≡ Ok h.event

@@ -48,7 +48,7 @@ same_role Slave Slave = inl refl
 same_role Master Slave = inr two_roles
 same_role Slave Master = inr (λ e. two_roles (sym e))
 
--- what is asked of a frame that is there
+-- what is asked about a frame that is there
 record Fits (s : Setting) (w : WorldAt) (way : Way) (octets : List ℕ) (f : FrameAt) : Type 0 where
   pub link_is : f.link ≡ way.link
   pub by_is : f.by ≡ way.by
@@ -107,8 +107,8 @@ such_or_not s w way octets i = go (w.frame i) refl
       | inr not ↦ inr (λ such. not (such_fits s w way octets i f is such))
     ]
 
--- Which of the frames of the first numbers it is: none is such, or one is the least that is open, or all that are such were
--- handed over and one is the greatest
+-- Which of the frames with the first numbers it is: none is such, or one is the least that is open, or all that are
+-- such were handed over and one is the greatest
 
 abbrev NoneSuch : (Such : ℕ → Type 0) → ℕ → Type 0
 NoneSuch Such count = (j : ℕ) → j < count → Such j → ⊥
@@ -122,11 +122,11 @@ Last Such handed count = (i : ℕ) × Such i × ((j : ℕ) → j < count → Suc
 abbrev Known : (Such : ℕ → Type 0) → (handed : ℕ → Bool) → ℕ → Type 0
 Known Such handed count = NoneSuch Such count ⊎ (Open Such handed ⊎ Last Such handed count)
 
--- the next number is the last of those that are less than one more
+-- the next number is the last of those below its successor
 last_of : (j count : ℕ) → j < suc count → count ≤ j → j ≡ count
 last_of j count below past = omega (arith, below, past)
 
--- where the next frame is not such
+-- if the next frame is not such
 stays : (Such : ℕ → Type 0) (handed : ℕ → Bool) (count : ℕ) → (Such count → ⊥) → Known Such handed count →
     Known Such handed (suc count)
 stays Such handed count other (inl none) =
@@ -147,7 +147,7 @@ stays Such handed count other (inr (inr last)) =
           ],
     ))
 
--- where it is, and was handed over
+-- if it is, and was handed over
 after_handed : (Such : ℕ → Type 0) (handed : ℕ → Bool) (count : ℕ) → Such count → handed count ≡ true → Known Such handed count →
     Known Such handed (suc count)
 after_handed Such handed count is done (inl none) =
@@ -172,7 +172,7 @@ after_handed Such handed count is done (inr (inr last)) =
           ],
     ))
 
--- where it is, and is open
+-- if it is, and is open
 after_open : (Such : ℕ → Type 0) (handed : ℕ → Bool) (count : ℕ) → Such count → handed count ≡ false → Known Such handed count →
     Known Such handed (suc count)
 after_open Such handed count is free (inl none) =
@@ -192,7 +192,7 @@ known_below Such handed decide (suc count) =
       ]
     ]
 
--- and of all, where those of greater numbers are not such
+-- and of all frames, if those with greater numbers are not such
 choice : (Such : ℕ → Type 0) (handed : ℕ → Bool) (count : ℕ) → ((j : ℕ) → count ≤ j → Such j → ⊥) → Known Such handed count →
     (found : Option ℕ) × Chooses Such handed found
 choice Such handed count beyond (inl none) =

@@ -1,4 +1,4 @@
--- For whatever is asked and an input an answer is due.
+-- An answer is expected for whatever is asked and for every input.
 use Rattle.std.proofs.Common.{◌≡◌, ◌∙◌, inl, inr, refl, ℕ, ◌≤◌, List, [], length, Option, None, Some, Result, Ok, Err}
 use Rattle.std.proofs.lemmas.Bool.{cases_lt}
 use Rattle.wrp_base.specs.declared.fault.ConfFault.{ConfFault}
@@ -40,11 +40,11 @@ use Rattle.wrp_answer_laws.proofs.LoopAnswered.{IsAskedBy, loop_answered}
 abbrev Answered : CommandLine → List ℕ → Type 0
 Answered asked input = (status : Status) × (octets : List ℕ) × Answer asked input [] status octets
 
--- then it is over each link, where no call is made
+-- then an answer is expected over each link, with no call made
 uncalled : (asked : CommandLine) (input : List ℕ) (link : LinkAnswers) → Answered asked input → HasAnswerOver link asked input
 uncalled asked input link it = record { calls = []; status = it.0; octets = it.1; follows = tt; due = inl it.2 }
 
--- what is due of a task, or of a command that stands alone, is due
+-- what is expected of a task, or of a command that stands alone, is expected
 due_of_task : (asked : CommandLine) (input : List ℕ) (status : Status) (octets : List ℕ) → TaskAnswer asked input [] status octets → Answer asked input [] status octets
 due_of_task asked input Usage octets due = absurd due.2
 due_of_task asked input BadNetwork octets due = absurd due.2
@@ -77,7 +77,7 @@ due_alone asked input BadCalib octets due = inr (inl due)
 of_task : (asked : CommandLine) (input : List ℕ) (task : Task) → AsksFor asked (network_text input) task → HasAnswer (meaning_at task) (behind_separator (lines_of input)) → Answered asked input
 of_task asked input task asks due = (due.0, due.1, due_of_task asked input due.0 due.1 (task, asks, due.2, refl))
 
--- no node of the name
+-- no node has this name
 unnamed : (asked : CommandLine) (input name : List ℕ) (net : Network) → IsOfNode asked name → length (network_text input) ≤ network_limit → IsReadingOf (network_text input) (Ok net)
     → node_named net.cfg name ≡ None → Answered asked input
 unnamed asked input name net asks within reads none =
@@ -169,9 +169,9 @@ loop_in asked input link seed net given asks within reads =
     let due = simulation_answered s seed (behind_separator (lines_of input)) in
     loop_by asked input link s seed due.0 due.1 given (within, asks, record { net = net; reads = reads; is = refl }) due.2
 
--- The network text in front
+-- The network text before the records
 
--- what is due in the network that it describes
+-- what is expected in the network that it describes
 abbrev InNetwork : CommandLine → List ℕ → LinkAnswers → Type 0
 InNetwork asked input link =
     (net : Network) → length (network_text input) ≤ network_limit → IsReadingOf (network_text input) (Ok net) → HasAnswerOver link asked input

@@ -66,7 +66,7 @@ small_network text s setting =
 
 -- How long a text is
 
--- how many octets texts have, each with one for a comma
+-- how many octets texts have, each with one more for a comma
 abbrev total : List (List ℕ) → ℕ
 total [] = 0
 total (text ∷ texts) = suc (length text) + total texts
@@ -99,7 +99,7 @@ change_short : (z : ℤ) → IsChange z → length (signed_decimal z) ≤ 20
 change_short (pos n) is = let digits = long_short n (omega (arith, is)) in omega (arith, digits)
 change_short (negsuc n) is = let digits = long_short (suc n) (omega (arith, is)) in omega (arith, digits)
 
--- a number of so many bits, with its sign
+-- a number of at most this size, with its sign
 wide_signed : (z : ℤ) → unsigned_abs z < 10 ^ 28 → length (signed_decimal z) ≤ 29
 wide_signed (pos n) is = let digits = wide_short n is in omega (arith, digits)
 wide_signed (negsuc n) is = let digits = wide_short (suc n) is in omega (arith, digits)

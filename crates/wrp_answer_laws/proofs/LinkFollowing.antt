@@ -10,7 +10,7 @@ use Rattle.wrp_answer_laws.specs.LinkAnswers.{AnswersCall, CallAnswer, Fails, Fa
 
 -- Numbers of calls
 
--- the number of the call after these, of which the first has this number
+-- the number of the call after these, the first of which has this number
 abbrev pub number_after : ℕ → List LinkCall → ℕ
 number_after number [] = number
 number_after number (call ∷ calls) = number_after (suc number) calls

@@ -1,4 +1,5 @@
--- Where an audit is due to end with Done, the inputs of a listed node in it are too, and so is their replay.
+-- If an audit is expected to end with Done, the inputs of a listed node in it are too, and so is their
+-- replay.
 use Rattle.std.proofs.Common.{◌≡◌, ◌∙◌, inl, inr, refl, sym, ap, ℕ, ◌<◌, ◌≤◌, Some, Ok, List, [], append-nil, length, map}
 use Rattle.std.specs.List.{AllByRecursion}
 use Rattle.wrp_network.specs.declared.configuration.NetCfg.{NetCfg}
@@ -46,7 +47,7 @@ audited asked input audit asks (inl p) = go p.0 p.1 p.2
         record { s = s; setting = q.2; within = q.0; sizes = h.handled.sizes; count = h.handled.count; events = h.handled.accepted.0; audit = h.handled.accepted.1 }
     go task q h = let bad : requests.Audit ≡ (task_row task).command = one_command asked requests.Audit (task_row task).command asks q.1 in absurd (cc)
 
--- the node that is listed is that of the audit's network
+-- the listed node is the node of the audit's network
 named_there : (input name : List ℕ) (a : DoneAudit input) (listed : IsListed (network_text input) name) → node_named a.s.cfg name ≡ Some listed.node
 named_there input name a listed =
     let nets = one_reading (network_text input) (Ok a.setting.net) (Ok listed.net) a.setting.reads listed.reads in

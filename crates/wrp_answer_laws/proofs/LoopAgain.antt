@@ -36,7 +36,7 @@ use Rattle.wrp_answer_laws.proofs.EventSizes.{small_network}
 use Rattle.wrp_answer_laws.proofs.PlainRuns.{plain_accepted, plain_are, plain_events, plain_lines, plain_said, plain_world}
 use Rattle.wrp_answer_laws.specs.LoopAgain.{IsAuditedAgain, LoopIsAuditedAgain, event_records}
 
--- What is due for the run
+-- What is expected for the run
 
 the_loop : (asked : CommandLine) (input octets : List ℕ) (calls : List LinkCall) → IsLoopDue asked input calls Done octets → LoopOf asked input calls Done octets
 the_loop asked input octets calls (inl none) = absurd none.0

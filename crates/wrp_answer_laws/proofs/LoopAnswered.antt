@@ -1,4 +1,4 @@
--- For each scenario and each link an answer of the loop is expected.
+-- An answer of the loop is expected for each scenario and each link.
 use Rattle.std.proofs.Common.{◌≡◌, inl, inr, refl, sym, subst, ℕ, ◌*◌, ◌<◌, List, [], ◌∷◌, ◌++◌, length, map}
 use Rattle.std.specs.List.{AllByRecursion}
 use Rattle.wrp_base.proofs.Lists.{all_append}

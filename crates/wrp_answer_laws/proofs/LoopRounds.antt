@@ -33,13 +33,14 @@ use Rattle.wrp_answer_laws.proofs.SimulatorGives.{ComesTo, IsGiven, comes_to, is
 
 -- What is kept, event by event
 
--- what octets say is read so, each measurement has the answer of its link's law, and no event has too great a number
+-- what octets say is read in this way, each measurement has the answer of its link's law, and no event has too
+-- great a number
 pub record IsKept (x : Plan) (events : List Happened) : Type 0 where
   pub said : AllSaid events
   pub answered : IsAnswered (answers_in x.setting) x.setting (world_after x.setting events)
   pub below : length events < event_limit
 
--- one event more
+-- one more event
 record OneMore (x : Plan) (events : List Happened) (e : Event) : Type 0 where
   pub says : Result PtpMsg FrameFault
   pub answer : ℤ
@@ -107,7 +108,7 @@ handles_all x way (frame ∷ got) least (On l) h =
 
 -- Rounds
 
--- the call after those before it fails, at the arrival that comes next
+-- the call after the earlier ones fails, at the arrival that comes next
 pub record Breaks (x : Plan) (link : LinkAnswers) (number : ℕ) (l : LoopAt) : Type 0 where
   pub frame : ℕ
   pub way : Way
@@ -119,11 +120,11 @@ abbrev pub BreaksAt : Plan → LinkAnswers → ℕ → Going → Type 0
 BreaksAt x link number (On l) = Breaks x link number l
 BreaksAt x link number (Full l) = ⊥
 
--- where the next call has this number, a loop ends here
+-- if the next call has this number, a loop ends here
 abbrev pub EndsAt : Plan → LinkAnswers → ℕ → Going → Type 0
 EndsAt x link number last = IsOver x last ⊎ (IsOverrun x last ⊎ BreaksAt x link number last)
 
--- a loop that goes on from here, where the next call has this number, ends so
+-- a loop that goes on from here ends in this way, if the next call has this number
 pub record GoesOn (x : Plan) (link : LinkAnswers) (number : ℕ) (now : Going) : Type 0 where
   pub rounds : List Round
   pub calls : List LinkCall
@@ -153,12 +154,12 @@ one_round x link number l r made next round follows frames rest = record {
   ends = subst (λ (n : ℕ). EndsAt x link n rest.last) (sym (number_later number made rest.calls)) rest.ends;
 }
 
--- so it goes on from each place with more events
+-- so the loop goes on from each place with more events
 abbrev GoesOnLater : Plan → LinkAnswers → ℕ → Type 0
 GoesOnLater x link least =
     (number : ℕ) (now : LoopAt) → least < length (events_at now) → IsKept x (events_at now) → GoesOn x link number (On now)
 
--- and where a frame is left out
+-- and if a frame is left out
 abbrev GoesOnWithout : Plan → LinkAnswers → ℕ → LoopAt → Type 0
 GoesOnWithout x link number l =
     (i : ℕ) (new : SimAt) → l.at.arrived.times ≡ new.arrived.times + 1 → GoesOn x link number (On (without_frame i new l))
@@ -168,7 +169,7 @@ later : (x : Plan) (link : LinkAnswers) (least number : ℕ) (next : Going) → 
 later x link least number (On now) more h = more number now (let many = h.many in omega (arith, many)) h.kept
 later x link least number (Full now) more h = stops x link number (Full now) h.kept (inr (inl tt))
 
--- an event that is no arrival and hands no frame over
+-- an event that is not an arrival and hands no frame over
 plain_round : (x : Plan) (link : LinkAnswers) (number : ℕ) (l : LoopAt) (e : Event) (new : SimAt) → IsKept x (events_at l) →
     GivesNext x l e new → IsPlain e → IsCounted e → GoesOnLater x link (length (events_at l)) → GoesOn x link number (On l)
 plain_round x link number l e new kept gives plain counted more =

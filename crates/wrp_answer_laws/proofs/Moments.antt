@@ -1,4 +1,4 @@
--- The next moment is the least of those after now.
+-- The next moment is the least of the moments after now.
 use Rattle.std.proofs.Common.{◌≡◌, ◌∙◌, ◌⊎◌, inl, inr, refl, sym, suc, ◌^◌, ◌&&◌, ℤ, pos, ◌+ℤ◌, ◌<ℤ◌, ◌≤ℤ◌, Bool, true, false, if◌then◌else◌, List, [], ◌∷◌, fold, arith}
 use Rattle.std.specs.List.{AllByRecursion, Contains}
 use Rattle.std.specs.Int.Signed.{lt_z}
@@ -28,7 +28,7 @@ sooner_is now best moment h = record {
   is = one_of (lt_z now moment && lt_z moment best) best moment;
 }
 
--- the least of some moments, the best so far among them
+-- the least of some moments, with the best so far among them
 record Least (now best : ℤ) (times : List ℤ) (got : ℤ) : Type 0 where
   after : now <ℤ got
   most : got ≤ℤ best

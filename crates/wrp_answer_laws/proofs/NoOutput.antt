@@ -1,4 +1,4 @@
--- The line of an input is one word, and so none that an emission prints of events tells an output.
+-- The line of an input is one word, so no line that an emission prints of events says an output.
 use Rattle.std.proofs.Common.{◌≡◌, subst, append-nil, ℕ, ◌==◌, not, false, List, [], ◌∷◌, ◌++◌}
 use Rattle.std.specs.List.{AllByRecursion, list_all}
 use Rattle.std.proofs.lemmas.Bool.{and_parts, not-true, true≢false}

@@ -1,4 +1,5 @@
--- Events as their lines say them, without the unused room of their names, are the same run, and are told in the same lines.
+-- Events as their lines say them, without the unused room of their names, are the same run, and have the same
+-- lines.
 use Rattle.std.proofs.Common.{◌≡◌, ◌∙◌, refl, ap, ap₂, sym, subst, ℕ, List, [], ◌∷◌, ◌++◌, flat_map}
 use Rattle.wrp_config.specs.Accepted.{HasNames}
 use Rattle.wrp_course.specs.Checks.{AllHold}

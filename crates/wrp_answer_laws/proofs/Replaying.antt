@@ -1,4 +1,4 @@
--- For the lines of each replay an answer is due.
+-- An answer is expected for the lines of each replay.
 use Rattle.std.proofs.Common.{◌≡◌, ◌⊎◌, inl, inr, refl, ℕ, ◌+◌, List, [], ◌∷◌, length, Result, Ok, Err}
 use Rattle.wrp_base.specs.declared.fault.TraceFault.{TraceFault}
 use Rattle.wrp_base.specs.declared.message.PtpMsg.{PtpMsg}
@@ -24,7 +24,7 @@ use Rattle.wrp_due_laws.proofs.Measuring.{step_answered}
 use Rattle.wrp_frame.proofs.Saying.{each_says}
 use Rattle.wrp_answer_laws.specs.EachAnswer.{EachReplayHasAnswer}
 
--- what an input says, where it is a frame
+-- what an input says, if it is a frame
 input_said : (input : Input) → (says : Result PtpMsg FrameFault) × IsSaid input says
 input_said (Frame p octets raw sample) = each_says octets.items
 input_said Tick = (Err Short, tt)
@@ -33,12 +33,12 @@ input_said (Sent p seq delay stamp) = (Err Short, tt)
 input_said (Carrier p up own_module) = (Err Short, tt)
 input_said Reset = (Err Short, tt)
 
--- what a run wrote is that of a run
+-- what a run wrote belongs to a run
 written_run : (site : LineSetting) (inputs : List Taken) (text : List ℕ) → Writes site inputs text → IsRun (law_at site) (node_setting_at site) inputs
 written_run site [] text wrote = record { said = tt; answered = tt }
 written_run site (t ∷ before) text wrote = record { said = wrote.3.said; answered = wrote.3.answered }
 
--- an input more
+-- one more input
 goes_on : (site : LineSetting) (lines : List (List ℕ)) (line text : List ℕ) (input : Input) → Accepts site lines text → read_of site line ≡ Ok input
     → GoesOn (meaning_of site) lines line text
 goes_on site lines line text input accepted reads =

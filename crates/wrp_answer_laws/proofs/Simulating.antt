@@ -1,4 +1,5 @@
--- For the lines of each simulation an answer is due: its run ends by its scenario, or by the number that no event may reach.
+-- An answer is expected for the lines of each simulation: its run ends by its scenario, or by the number that no
+-- event may reach.
 use Rattle.std.proofs.Common.{◌≡◌, ◌⊎◌, inl, inr, refl, ap, subst, ℕ, zero, suc, ◌+◌, ◌-◌, ◌<◌, List, [], ◌∷◌, ◌++◌, length, Option, None, Some, Result, Ok, Err, arith}
 use Rattle.wrp_base.specs.declared.fault.TraceFault.{TraceFault}
 use Rattle.wrp_course.specs.Run.{Happened, world_after}
@@ -60,7 +61,7 @@ overrun : (s : Setting) (seed : ℕ) (lines : List (List ℕ)) (run : Simulates 
 overrun s seed lines run n number gives =
     (TooLarge, sim_lines s run.events ++ large_line (length run.events + 1), (run, record { next = n; comes = gives; number = number }, refl))
 
--- one event more
+-- one more event
 longer : (s : Setting) (seed : ℕ) (scene : SceneAt) (events : List Happened) (at : SimAt) (n : Next) → IsSimulated s scene seed events at
     → length events + 1 < event_limit
     → Gives scene s (world_after s events) at (Some n) → (h : Happened) × IsSimulated s scene seed (h ∷ events) n.at

@@ -1,5 +1,5 @@
--- What the simulator gives: a frame that arrives is there and has an end to come to, and a frame that is handed over is handed
--- over once less from then on.
+-- What the simulator gives: a frame that arrives is there and has an end to come to, and a frame that is handed
+-- over is afterwards handed over once less.
 use Rattle.std.proofs.Common.{◌≡◌, refl, sym, subst, ℕ, ◌+◌, ◌-◌, ◌<◌, nat_lt, ℤ, ◌-ℤ◌, Bool, true, false, if◌then◌else◌, List, [], ◌∷◌, find, Option, None, Some, option_map, option_and_then, arith}
 use Rattle.std.proofs.lemmas.Bool.Decides.{nat_tests}
 use Rattle.std.proofs.lemmas.Option.{none-some}
@@ -20,7 +20,7 @@ use Rattle.wrp_sim.specs.Rules.{Next, after_arrival, arrives, arrives_by, begins
 use Rattle.wrp_sim.specs.SimAt.{SimAt}
 use Rattle.wrp_sim.specs.SimRun.{GivesEvent}
 
--- what is known of an event that comes, and of what has been drawn and done then
+-- what is known of an event that comes, and of what has then been drawn and done
 abbrev pub IsGiven : Setting → WorldAt → SimAt → Event → SimAt → Type 0
 IsGiven s w at (Deliver i) new = at.arrived.times ≡ new.arrived.times + 1
 IsGiven s w at (Arrive i raw) new = raw_of s w i ≡ Some raw
@@ -122,7 +122,7 @@ next_given scene s w due at =
     (first_given s w at (ticks s w rest) _ (ticks_given s w at)
     (first_given s w at (passes scene s w due rest) [] (passes_given scene s w due at) tt)))))))
 
--- so it is of each event that comes
+-- this holds for each event that comes
 pub is_given : (scene : SceneAt) (s : Setting) (w : WorldAt) (at : SimAt) (e : Event) (new : SimAt) →
     GivesEvent scene s w at e new → IsGiven s w at e new
 is_given scene s w at e new gives = subst (GivenIf s w at) (sym gives.next) (next_given scene s w gives.due at)

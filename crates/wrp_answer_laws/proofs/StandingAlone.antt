@@ -1,4 +1,5 @@
--- For each input of a command that stands alone an answer is due, by the table of these commands.
+-- An answer is expected for each input of a command that stands alone, by the table of these
+-- commands.
 use Rattle.wrp_asked.proofs.AloneTable.{facts_of}
 use Rattle.wrp_answer_laws.specs.EachAnswer.{EachStandsAloneWithAnswer}
 

@@ -8,7 +8,7 @@ use Rattle.wrp_records.specs.Lines.{HasNoFeed, IsWhole, lines_of, onto}
 use Rattle.wrp_asked.specs.Input.{before_separator, behind_separator, is_separator, network_text}
 use Rattle.wrp_answer_laws.specs.LoopAgain.{EndsLine, TextWithRecords, with_records}
 
--- Lines of octets: each is whole, but that the last may lack its LF
+-- Lines of octets: each is whole, but the last may have no LF
 
 abbrev IsLast : List ℕ → Type 0
 IsLast line = IsWhole line ⊎ HasNoFeed line
@@ -50,13 +50,13 @@ ends_behind (octet ∷ []) [] ends = tt
 ends_behind (octet ∷ []) (next ∷ back) ends = ends
 ends_behind (octet ∷ next ∷ front) back ends = ends_behind (next ∷ front) back ends
 
--- octets without LF that end with LF are none
+-- if octets without LF end with LF, there are none
 none_cut : (line : List ℕ) → HasNoFeed line → EndsLine line → line ≡ []
 none_cut [] cut ends = refl
 none_cut (octet ∷ []) cut ends = absurd (true≢false (subst (λ (n : ℕ). (n == 10) ≡ false) ends cut.0))
 none_cut (octet ∷ next ∷ octets) cut ends = absurd (let rest : next ∷ octets ≡ [] = none_cut (next ∷ octets) cut.1 ends in cc)
 
--- The lines in front of the first that says `---`
+-- The lines before the first that says `---`
 
 record Front (lines : List (List ℕ)) : Type 0 where
   first : List (List ℕ)
@@ -94,7 +94,7 @@ front_of (line ∷ lines) are ends = elim (cases_Bool (is_separator line)) [
       front_more line lines other are more (front_of lines)
 ]
 
--- The line `---` behind them
+-- The line `---` after them
 
 abbrev separator : List ℕ
 separator = codes "---" ++ 10 ∷ []

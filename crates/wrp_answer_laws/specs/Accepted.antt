@@ -24,7 +24,7 @@ use Rattle.wrp_scene_records.specs.Scenarios.{IsScenario}
 use Rattle.wrp_simulate.specs.Simulates.{IsSimulated}
 use Rattle.wrp_asked.specs.Tasks.{AsksFor, Audit}
 
--- the line says an event that keeps all premises behind those that the lines before it say
+-- the line says an event that keeps all premises after the events that the lines before it say
 abbrev pub IsAccepted : Setting → List (List ℕ) → List ℕ → Type 0
 IsAccepted s front line =
     (e : Event) × (event_read s.cfg line ≡ Ok e)
@@ -36,13 +36,13 @@ abbrev pub EachIsAccepted : Setting → List (List ℕ) → Type 0
 EachIsAccepted s lines =
     (front behind : List (List ℕ)) (line : List ℕ) → lines ≡ front ++ line ∷ behind → IsAccepted s front line
 
--- of lines that say events, each accepted in its turn, there is an audit
+-- lines that say events, each accepted in its turn, have an audit
 abbrev pub AcceptedIsAudit : Type 0
 AcceptedIsAudit =
     (text : List ℕ) (s : Setting) (lines : List (List ℕ)) → IsSettingOf text s → EachIsAccepted s lines →
     (events : List Happened) × IsAudit s lines events
 
--- a run of a world whose events lines say is an audit: each frame is read as its octets say
+-- a run of a world whose events are said by lines is an audit: each frame is read as its octets say
 abbrev pub RunOfLinesIsAudit : Type 0
 RunOfLinesIsAudit =
     (text : List ℕ) (s : Setting) (lines : List (List ℕ)) (events : List Happened) → IsSettingOf text s →
@@ -54,9 +54,9 @@ SimulatedIsHeard =
     (text : List ℕ) (s : Setting) (lines : List (List ℕ)) (scene : SceneAt) (seed : ℕ) (events : List Happened) (at : SimAt) →
     IsSettingOf text s → IsScenario s lines scene → IsSimulated s scene seed events at → AllHeard s (world_after s events)
 
--- where an audit is asked for of the network that the text in front describes, each record is a line that is not too
--- large and they are not too many, and each says an event that is accepted in its turn, then Done is due, and the lines of
--- the nodes' steps and their counters
+-- if an audit is asked for of the network that the text in front describes, and the records are not too many, and
+-- each record is a line that is not too large and says an event that is accepted in its turn, then Done is
+-- expected, with the lines of the nodes' steps and their counters
 abbrev pub AcceptedIsDone : Type 0
 AcceptedIsDone =
     (asked : CommandLine) (input : List ℕ) (s : Setting) → AsksFor asked (network_text input) (Audit s) →

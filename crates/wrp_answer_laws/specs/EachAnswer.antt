@@ -1,4 +1,4 @@
--- That an answer is due (this project's profile).
+-- That an answer is expected (this project's profile).
 use Rattle.std.specs.Prelude.{ℕ, List, []}
 use Rattle.wrp_records.specs.declared.status.Status.{Status}
 use Rattle.wrp_records.specs.RecordsAnswer.{HasAnswer}

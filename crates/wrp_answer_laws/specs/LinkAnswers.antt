@@ -42,7 +42,7 @@ AnswersCall Nothing (Receive end given) = given ≡ None
 AnswersCall Fails call = ⊥
 AnswersCall _ call = Unit {0}
 
--- these calls had their answers, where the first of them has this number, and each next one the next number
+-- these calls had their answers, if the first of them has this number, and each next one the next number
 abbrev pub FollowsFrom : LinkAnswers → ℕ → List LinkCall → Type 0
 FollowsFrom link number [] = Unit {0}
 FollowsFrom link number (call ∷ calls) = AnswersCall (link number) call × FollowsFrom link (suc number) calls
@@ -57,7 +57,8 @@ FailsNext link calls = link (length calls + 1) ≡ Fails
 
 -- What is expected over a link
 
--- a run ends with LinkFault, since the call after these fails, and writes the lines of the events before it
+-- a run ends with LinkFault, because the call after these fails, and writes the lines of the events before
+-- that call
 pub record IsBroken (link : LinkAnswers) (asked : CommandLine) (input : List ℕ) (calls : List LinkCall) (status : Status)
     (octets : List ℕ) : Type 0 where
   pub is : status ≡ LinkFault

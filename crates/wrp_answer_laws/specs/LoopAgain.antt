@@ -17,14 +17,15 @@ use Rattle.wrp_asked.specs.Tasks.{IsAuditing, IsLooping}
 abbrev pub event_records : List ℕ → List ℕ
 event_records octets = concat (marked_in (lines_of octets))
 
--- an audit of this input, which calls no link, is due to end with Done, and to write the other lines of these octets in their
--- order, but for the last, which tells how many datagrams were forged, where any was
+-- an audit of this input, which calls no link, is expected to end with Done, and to write the other lines of these
+-- octets in their order, except the last one, which gives the number of forged datagrams, if any was forged
 pub record IsAuditedAgain (auditing : CommandLine) (again octets : List ℕ) (forged : ℕ) : Type 0 where
   pub text : List ℕ
   pub due : Answer auditing again [] Done text
   pub lines : others_in (lines_of octets) ≡ lines_of text ++ forged_lines forged
 
--- where a run over a link is due to end with Done, and to write some octets, so is the audit of its event lines in its network
+-- if a run over a link is expected to end with Done and to write some octets, then the audit of its event lines in
+-- its network is also expected to end with Done, as above
 abbrev pub LoopIsAuditedAgain : Type 0
 LoopIsAuditedAgain =
     (looping auditing : CommandLine) (seed : ℕ) (input again octets : List ℕ) (calls : List LinkCall) →
@@ -32,7 +33,7 @@ LoopIsAuditedAgain =
     HasRecords input (event_records octets) again →
     (loop : LoopOf looping input calls Done octets) × IsAuditedAgain auditing again octets (place loop.last).forged
 
--- octets that end with LF, which is octet 10, or none
+-- octets that end with LF, which is octet 10, or no octets
 abbrev pub EndsLine : List ℕ → Type 0
 EndsLine [] = Unit {0}
 EndsLine (octet ∷ []) = octet ≡ 10
@@ -42,7 +43,8 @@ EndsLine (octet ∷ next ∷ octets) = EndsLine (next ∷ octets)
 abbrev pub with_records : (text records : List ℕ) → List ℕ
 with_records text records = text ++ (codes "---" ++ 10 ∷ records)
 
--- such an input is that of another with the same network text, where this ends with LF, as it does in front of a line `---`
+-- such an input has the same network text as another input, if that text ends with LF, as it does before a line
+-- `---`
 abbrev pub TextWithRecords : Type 0
 TextWithRecords =
     (input records : List ℕ) → EndsLine (network_text input) → HasRecords input records (with_records (network_text input) records)

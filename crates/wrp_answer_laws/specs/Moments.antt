@@ -3,8 +3,8 @@ use Rattle.std.specs.Prelude.{◌≡◌, ◌⊎◌, ℤ, pos, ◌+ℤ◌, ◌<�
 use Rattle.std.specs.List.{AllByRecursion, Contains}
 use Rattle.wrp_sim.specs.Rules.{next_moment}
 
--- a moment after now and at most 2^62 tau after it: it is one of these, or the last of that time, and none of these that is
--- after now is sooner
+-- a moment after now and at most 2^62 tau after it: it is one of these, or the last moment of that time, and none
+-- of these that is after now is sooner
 pub record IsNextMoment (now : ℤ) (times : List ℤ) (moment : ℤ) : Type 0 where
   pub after : now <ℤ moment
   pub most : moment ≤ℤ (now +ℤ pos (2 ^ 62))

@@ -1,5 +1,5 @@
--- A link that is worked out: its third call is answered with a frame of one octet, its fifth fails, and each other call succeeds and gives
--- no frame (this project's profile).
+-- A worked example of a link: its third call is answered with a frame of one octet, its fifth fails, and each other
+-- call succeeds and gives no frame (this project's profile).
 use Rattle.std.specs.Prelude.{◌==◌, ◌++◌, if◌then◌else◌, List, [], ◌∷◌, None, Some}
 use Rattle.wrp_io.specs.declared.link.LinkCall.{LinkCall}
 use Rattle.wrp_io.specs.declared.link.LinkCall.TheVariants.{Receive, Send, Start}
@@ -21,7 +21,8 @@ unanswered_calls = Start 2 ∷ Send 0 (frame_of (7 ∷ [])) ∷ Receive 1 None �
 abbrev pub further_calls : List LinkCall
 further_calls = worked_calls ++ Receive 1 None ∷ []
 
--- the four calls follow the link, and its next call fails; without the frame, or with one call more, they do not follow it
+-- the four calls follow the link, and its next call fails; without the frame, or with one more call, they do not
+-- follow it
 pub record WorkedLink : Type 0 where
   pub follows : Follows worked_answers worked_calls
   pub fails : FailsNext worked_answers worked_calls

@@ -1,5 +1,6 @@
-//! That an answer is due: for whatever is asked, an input of every kind and a link some status and some octets are, and lines
-//! that say events, each accepted in its turn, are an audit. Words, inputs and lines are this project's profile.
+//! That an answer is expected: whatever is asked, there are a status and octets for every kind of input and every
+//! link, and lines that say events, each accepted in its turn, are an audit. Words, inputs and lines are this
+//! project's profile.
 #![tactic(auto)]
 
 mod again;

@@ -1,4 +1,4 @@
--- What became of the event that a place has.
+-- What became of the event that a place holds.
 use Rattle.std.proofs.Common.{◌≡◌, subst, ℕ, ℤ, Option, List, flat_map, map}
 use Rattle.wrp_course.specs.declared.event.Event.{Event}
 use Rattle.wrp_course.specs.declared.node_out.NodeOut.{NodeOut}

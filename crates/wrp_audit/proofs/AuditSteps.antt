@@ -1,5 +1,5 @@
--- A world that stands for the run of its events: its measurements have the answers of the links' laws, and one event more
--- makes one run more.
+-- A world that stands for the run of its events: its measurements have the answers of the links' laws, and one more
+-- event makes the run longer by one.
 use Rattle.std.proofs.Common.{◌≡◌, ◌∙◌, refl, ap, sym, subst, ℕ, ℤ, pos, ◌<◌, ◌≤◌, ◌+◌, Bool, List, [], ◌∷◌, ◌++◌, flat_map, map, length, Option, None, Some, IfSome, Ok, Err, arith}
 use Rattle.std.specs.Prelude.{slice_get}
 use Rattle.wrp_network.specs.declared.configuration.NetCfg.{NetCfg}
@@ -61,7 +61,7 @@ all_heard {F} {post} net w world counted stands n below =
     let item = has_item world.nodes n (omega (arith, below, counted)) in
     (stands.nodes n item.0 item.1).stands.said
 
--- One event more
+-- One more event
 
 -- the run with it
 one_run_more : {F : Type 0} {post : F → ℤ → ℤ → Type 0} (net : Network) (emit : Option ℕ) (lines : List (List ℕ)) (line text : List ℕ) (events : List Happened)
@@ -83,13 +83,13 @@ one_run_more {F} {post} net emit lines line text events e new tree counted laws 
       heard = all_heard {post = post} net (world_after (setting_in net) (h ∷ events)) new counted took.stands;
     }
 
--- what is written of it
+-- what is written for it
 wrote_more : (emit : Option ℕ) (s : Setting) (events : List Happened) (h : Happened) (text : List ℕ)
     → text ≡ flat_map (line_by emit s (world_after s (h ∷ events))) (steps_at s events h) → lines_by emit s events ++ text ≡ lines_by emit s (h ∷ events)
 wrote_more None s events h text wrote = ap (λ (l : List ℕ). lines_by None s events ++ l) wrote
 wrote_more (Some n) s events h text wrote = ap (λ (l : List ℕ). lines_by (Some n) s events ++ l) wrote
 
--- a text that the lines write is that of their run
+-- a text that the lines write is the text of their run
 same_text : OneAudit → (emit : Option ℕ) (s : Setting) (lines : List (List ℕ)) (events : List Happened) (before : List ℕ) → IsAudit s lines events
     → (meaning_for emit s).accepts lines before → before ≡ lines_by emit s events
 same_text one None s lines events before audit p = p.2 ∙ (one s lines p.0 events p.1 audit).lines
@@ -202,7 +202,7 @@ counted_all : (s : Setting) (y : ℤ) (v : WorldAt) (gs : List Given) → (gives
 counted_all s y v [] = refl
 counted_all s y v (g ∷ gs) = counted_all s y (gives s y v g) gs
 
--- one event more is counted
+-- one more event is counted
 pub one_more_event : {F : Type 0} (post : F → ℤ → ℤ → Type 0) (s : Setting) (w : WorldAt) (e : Event) (old new : WorldOf F) (outs : List NodeOut)
     → StandsFor post s w old → Stepped post e old new outs
     → new.plant.events ≡ old.plant.events + 1
@@ -214,7 +214,7 @@ pub same_count : {F : Type 0} (post : F → ℤ → ℤ → Type 0) (s : Setting
     → new.plant.events ≡ old.plant.events
 same_count post s w old new stood stays = (stays s w stood).plant.count ∙ sym stood.plant.count
 
--- no lines are a run, which writes nothing
+-- no lines are a run that writes nothing
 pub nothing_audited : (s : Setting) → IsAudit s [] []
 nothing_audited s = record { are = refl; run = record { accepted = tt; said = tt; answered = λ n. tt }; heard = λ n below. tt }
 
@@ -222,7 +222,7 @@ pub nothing_accepted : (emit : Option ℕ) (s : Setting) → (meaning_for emit s
 nothing_accepted None s = ([], nothing_audited s, refl)
 nothing_accepted (Some n) s = ([], nothing_audited s, refl)
 
--- what passes by the meaning of the machine's lines passes by that of the task
+-- what passes by the meaning of the machine's lines also passes by the meaning of the task's lines
 pub audit_passes : (emit : Option ℕ) (s : Setting) (source sink : Passage (List ℕ)) (rest : List ℕ) (had ended : Bool) (status : Status)
     → Passes (of_lines (meaning_by (meaning_for emit s).accepts (meaning_for emit s).refuses (meaning_for emit s).closes bars_none)) source sink rest had ended [] status
     → Passes (of_lines (meaning_for emit s)) source sink rest had ended [] status
@@ -247,7 +247,7 @@ step_text post s w world out node ticks off name bound lent text old stands is t
     let bound_is : bound ≡ pos (path_of s.cfg out.node) = bounded ∙ ap (λ (cfg : NetCfg). pos (path_of cfg out.node)) stands.plant.cfg in
     wrote ∙ (λ i. old ++ flat_map (λ o. output_line_of (name_is i) (ticks_are i) o (bound_is i) (Some (offs s w stands i))) (lends i))
 
--- What can take an event still can behind one
+-- What can take an event can still take one after it
 
 pub can_stay : {F : Type 0} {pre : F → ℤ → Type 0} {post : F → ℤ → ℤ → Type 0} (held now : AuditedNetwork F) → CanAudit pre post held
     → IsValid pre post now.world → now.world.plant.net ≡ held.world.plant.net → now.emit ≡ held.emit → now.bounds.items ≡ held.bounds.items
@@ -263,7 +263,7 @@ can_stay {F} {pre} {post} held now can valid net emit bounds laws = record {
       (subst (λ (k : Network). AreBounds k.cfg held.bounds.items) (sym net) can.bounds);
 }
 
--- and an event more is counted, or none
+-- and one more event is counted, or none
 pub counts_one : {F : Type 0} {pre : F → ℤ → Type 0} {post : F → ℤ → ℤ → Type 0} (e : Event) (old new : WorldOf F) (outs : List NodeOut) → IsValid pre post old
     → Stepped post e old new outs → new.plant.events ≤ old.plant.events + 1
 counts_one {post = post} e old new outs valid stepped =

@@ -1,4 +1,4 @@
--- What is due for the record lines of an audit does not see the unused room of names.
+-- What is expected for the record lines of an audit does not depend on the unused room of names.
 use Rattle.std.proofs.Common.{◌≡◌, ◌∙◌, refl, ap, ap₂, sym, subst, ℕ, pos, ◌==◌, ◌++◌, if◌then◌else◌, Some, List, [], ◌∷◌, map, flat_map, arith}
 use Rattle.std.proofs.lemmas.List.{length-map}
 use Rattle.wrp_network.specs.Network.{node_count}
@@ -89,7 +89,7 @@ refused_bare s lines line last refusals.Broken h = record {
   is = h.is;
 }
 
--- What is due
+-- What is expected
 
 pub bare_answer : (s : Setting) (lines : List (List ℕ)) (status : Status) (octets : List ℕ) → RecordsAnswer (audit_of s) lines status octets
     → RecordsAnswer (audit_of (bare_setting s)) lines status octets

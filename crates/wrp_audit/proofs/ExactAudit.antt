@@ -33,7 +33,7 @@ none_ends (y ∷ xs) x e = cc
 turned : (h : Happened) (events : List Happened) → map read (reverse (h ∷ events)) ≡ map read (reverse events) ++ read h ∷ []
 turned h events = ap (map read) (reverse-append (h ∷ []) events) ∙ map-append read (reverse events) (h ∷ [])
 
--- what a node was given before an event is read as it is after it
+-- what a node was given before an event is read in the same way after it
 one_before : (b : Bool) (t : Taken) (inputs : List Taken) → AllSaid (if b then t ∷ inputs else inputs) → AllSaid inputs
 one_before true t inputs said = said.1
 one_before false t inputs said = said
@@ -48,7 +48,7 @@ heard_before s h before n said =
     let w : WorldAt = world_after s before in
     all_before s h.answer (given_by s w (moved s w h.event) h.says h.event) (moved s w h.event) n said
 
--- of a run the last line says the newest event, and those before it are a run
+-- the last line of a run says the newest event, and the lines before it are a run
 record Newest (s : Setting) (lines : List (List ℕ)) (line : List ℕ) (events : List Happened) : Type 0 where
   newest : Happened
   before : List Happened
@@ -89,7 +89,7 @@ first_lines s front (line ∷ back) events audit =
     newest_of s (front ++ reverse back) line events (subst (λ (ls : List (List ℕ)). IsAudit s ls events) split audit) in
     first_lines s front back n.before n.audit
 
--- a line among those of a run
+-- a line among the lines of a run
 among : (s : Setting) (before behind : List (List ℕ)) (line : List ℕ) (events : List Happened) → IsAudit s (before ++ line ∷ behind) events
     → (older : List Happened) × IsAudit s (before ++ line ∷ []) older
 among s before behind line events audit =
@@ -99,7 +99,7 @@ among s before behind line events audit =
 
 -- Refusals
 
--- checks of which none fails tell nothing
+-- checks of which none fails report nothing
 none_told : (checks : List Check) → AllHold checks → told_of checks ≡ None
 none_told [] all = refl
 none_told (check ∷ checks) all =

@@ -1,4 +1,4 @@
--- The nodes that make steps in an event are of the network.
+-- The nodes that make steps in an event belong to the network.
 use Rattle.std.proofs.Common.{sym, subst, ℕ, ℤ, ◌<◌, List, [], ◌∷◌, map}
 use Rattle.std.specs.List.{AllByRecursion}
 use Rattle.wrp_network.specs.Network.{IsTree, node_count}

@@ -1,4 +1,4 @@
--- Lines are one list of events, and a list of events writes one text.
+-- Lines give one list of events, and a list of events writes one text.
 use Rattle.std.proofs.Common.{◌≡◌, ◌∙◌, refl, ap, ap₂, sym, ℕ, Result, Ok, List, [], ◌∷◌, ◌++◌, map, reverse, flat_map}
 use Rattle.std.proofs.lemmas.List.{map-append, reverse-append, reverse-reverse}
 use Rattle.wrp_base.specs.declared.fault.TraceFault.{TraceFault}
@@ -33,7 +33,7 @@ map_reverse (h ∷ events) =
     ∙ ap (λ (rs : List (Result Event TraceFault)). rs ++ read h ∷ []) (map_reverse events)
     ∙ sym (reverse-append (read h ∷ []) (map read events))
 
--- one line more
+-- one more line
 pub one_line : (s : Setting) (lines : List (List ℕ)) (events : List Happened) (line : List ℕ) (h : Happened) → AreEvents s lines events
     → event_read s.cfg line ≡ Ok h.event
     → AreEvents s (lines ++ line ∷ []) (h ∷ events)
@@ -51,7 +51,7 @@ heads_same (h ∷ a) (k ∷ b) e =
     let rest : map read a ≡ map read b = cc in
     (cc, heads_same a b rest)
 
--- lines are one list of events
+-- lines give one list of events
 same_events : (s : Setting) (lines : List (List ℕ)) (a b : List Happened) → AreEvents s lines a → AreEvents s lines b → SameEvents a b
 same_events s lines a b p q =
     let both : reverse (map read a) ≡ reverse (map read b) = sym (map_reverse a) ∙ sym p ∙ q ∙ map_reverse b in

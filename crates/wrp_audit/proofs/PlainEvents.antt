@@ -1,4 +1,5 @@
--- An event and the same without the unused room of its names make one world of each, and are tried alike.
+-- An event, and the same event without the unused room of its names, make the same world of each world,
+-- and are tried in the same way.
 use Rattle.std.proofs.Common.{◌≡◌, ◌∙◌, refl, ap, ap₂, not, ℕ, ℤ, Bool, true, false, cond, ◌==◌, ◌++◌, if◌then◌else◌, List, [], ◌∷◌, map, flat_map, Option, None, Some, option_map, Result}
 use Rattle.wrp_base.specs.declared.link.Role.{Role}
 use Rattle.wrp_base.specs.declared.message.PtpMsg.{PtpMsg}

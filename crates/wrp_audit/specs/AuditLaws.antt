@@ -19,7 +19,7 @@ pub record AreOneAudit (s : Setting) (events others : List Happened) : Type 0 wh
       (e : Event) (a b : Result PtpMsg FrameFault) → IsSaid e a → IsSaid e b
       → checks_of s (world_after s events) a e ≡ checks_of s (world_after s others) b e
 
--- the same record lines have one run, whatever is noted beside its octets and its measurements
+-- the same record lines have one run, whatever is noted apart from its octets and its measurements
 abbrev pub OneAudit : Type 0
 OneAudit =
     (s : Setting) (lines : List (List ℕ)) (events others : List Happened) →

@@ -4,7 +4,7 @@ use Rattle.wrp_trace.specs.Places.{IsPlaceOf}
 use Rattle.wrp_audit.specs.declared.audit_lines.AuditLines.{AuditLines}
 use Rattle.wrp_audit.specs.AuditStands.{CanAudit}
 
--- its network can take an event, and its place is one for the network's events
+-- its network can take an event, and its place can hold the network's events
 pub record CanRead {F : Type 0} (pre : F → ℤ → Type 0) (post : F → ℤ → ℤ → Type 0)
     (held : AuditLines F) : Type 0 where
   pub network : CanAudit pre post held.network

@@ -24,8 +24,8 @@ use Rattle.wrp_audit.specs.AuditText.{audit_lines, given_line, given_lines, step
 use Rattle.wrp_network_world.specs.Bounds.{AreBounds}
 use Rattle.wrp_audit.specs.Broken.{broken_line}
 
--- what is written of a node's step in an event that left this world, and of all events: the input that it gave the node whose
--- inputs are asked for, or else its lines
+-- what is written for a node's step in an event that led to this world, and for all events: the input that the step
+-- gave the node whose inputs are asked for, or, if none are asked for, the step's lines
 abbrev pub line_by : Option ℕ → Setting → WorldAt → NodeStepAt → List ℕ
 line_by None s w step = step_lines s w step
 line_by (Some n) s w step = given_line s n step
@@ -34,7 +34,7 @@ abbrev pub lines_by : Option ℕ → Setting → List Happened → List ℕ
 lines_by None s events = audit_lines s events
 lines_by (Some n) s events = given_lines s n events
 
--- the world holds what these events made of it, which the lines say
+-- the world is in the state that these events led to, and the lines say these events
 pub record AuditedSo {F : Type 0} (post : F → ℤ → ℤ → Type 0) (held : AuditedNetwork F)
     (lines : List (List ℕ)) (events : List Happened) : Type 0 where
   pub audit : IsAudit (setting_in held.world.plant.net) lines events
@@ -45,8 +45,9 @@ pub record AuditedSo {F : Type 0} (post : F → ℤ → ℤ → Type 0) (held : 
 abbrev pub HasAudited : {F : Type 0} → (F → ℤ → ℤ → Type 0) → AuditedNetwork F → List (List ℕ) → Type 0
 HasAudited post held lines = (events : List Happened) × AuditedSo post held lines events
 
--- it can take an event: its world is one that its calls made, the law of each node is that of the link
--- above it, the node whose inputs are asked for is one of the network, and the nodes' bounds are at hand
+-- it can take an event: its world was made by calls of the world, the law of each node is the law of the
+-- link above it, the node whose inputs are asked for is one of the network, and the nodes' bounds are at
+-- hand
 pub record CanAudit {F : Type 0} (pre : F → ℤ → Type 0) (post : F → ℤ → ℤ → Type 0)
     (held : AuditedNetwork F) : Type 0 where
   pub valid : IsValid pre post held.world
@@ -54,7 +55,7 @@ pub record CanAudit {F : Type 0} (pre : F → ℤ → Type 0) (post : F → ℤ 
   pub emit : IfSome held.emit (λ n. n < node_count held.world.plant.net.cfg)
   pub bounds : AreBounds held.world.plant.net.cfg held.bounds.items
 
--- an event was taken in a world: it kept all premises, and what its steps write is written
+-- an event was taken in a world: it kept all premises, and the lines of its steps are written
 pub record Took {F : Type 0} (post : F → ℤ → ℤ → Type 0) (emit : Option ℕ) (s : Setting) (w : WorldAt)
     (e : Event) (new : WorldOf F) (text : List ℕ) : Type 0 where
   pub says : Result PtpMsg FrameFault
@@ -65,7 +66,7 @@ pub record Took {F : Type 0} (post : F → ℤ → ℤ → Type 0) (emit : Optio
   pub wrote :
       text ≡ flat_map (line_by emit s (world_step s says answer w e)) (event_steps s says answer w e)
 
--- an event breaks a premise in a world, and the line that tells both sides is written
+-- an event breaks a premise in a world, and the line that gives both sides is written
 pub record Broke (s : Setting) (w : WorldAt) (e : Event) (number : ℕ) (text : List ℕ) : Type 0 where
   pub says : Result PtpMsg FrameFault
   pub said : IsSaid e says

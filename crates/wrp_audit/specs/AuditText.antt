@@ -10,30 +10,30 @@ use Rattle.wrp_course.specs.Run.{Happened, world_after, steps_at}
 use Rattle.wrp_course.specs.Setting.{Setting}
 use Rattle.wrp_course.specs.WorldAt.{WorldAt}
 
--- the lines of what a node put out in an event that left this world: its tick count there, and how far
--- its clock is there from true time
+-- the lines of what a node put out in an event that led to this world: its tick count there, and how
+-- far its clock is there from true time
 abbrev pub step_lines : Setting → WorldAt → NodeStepAt → List ℕ
 step_lines s w step =
     flat_map
     (λ o. output_line s.cfg step.node (w.node step.node).ticks o (Some (w.clock step.node).off))
     step.outs
 
--- those of all steps of the newest event
+-- the lines of all steps of the newest event
 abbrev pub event_lines : Setting → List Happened → Happened → List ℕ
 event_lines s before h = flat_map (step_lines s (world_after s (h ∷ before))) (steps_at s before h)
 
--- those of all events, which stand newest first
+-- the lines of all events, which are newest first
 abbrev pub audit_lines : Setting → List Happened → List ℕ
 audit_lines s [] = []
 audit_lines s (h ∷ before) = audit_lines s before ++ event_lines s before h
 
 -- The inputs of one node
 
--- the line of what a step gave the node, where the step is its own; LF is octet 10
+-- the line of what a step gave the node, if the step is the node's own; LF is octet 10
 abbrev pub given_line : Setting → ℕ → NodeStepAt → List ℕ
 given_line s n step = if step.node == n then line_of (line_setting_in s n) step.input ++ 10 ∷ [] else []
 
--- those of all events
+-- the lines of all events
 abbrev pub given_lines : Setting → ℕ → List Happened → List ℕ
 given_lines s n [] = []
 given_lines s n (h ∷ before) = given_lines s n before ++ flat_map (given_line s n) (steps_at s before h)

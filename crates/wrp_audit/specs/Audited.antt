@@ -8,12 +8,13 @@ use Rattle.wrp_course.specs.Setting.{Setting}
 use Rattle.wrp_course.specs.WorldAt.{WorldAt}
 use Rattle.wrp_network_world.specs.NetworkSetting.{answers_in}
 
--- each line says its event; the events stand newest first
+-- each line says its event; the events are newest first
 abbrev pub AreEvents : Setting → List (List ℕ) → List Happened → Type 0
 AreEvents s lines events =
     map (event_read s.cfg) lines ≡ map (λ (h : Happened). Ok h.event) (reverse events)
 
--- each frame that a node was given is read as its octets say, also one that another node sent
+-- each frame that a node was given is read as its octets say, including a frame that another node
+-- sent
 abbrev pub AllHeard : Setting → WorldAt → Type 0
 AllHeard s w = (n : ℕ) → n < node_count s.cfg → AllSaid (w.inputs n)
 

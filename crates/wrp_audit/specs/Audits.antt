@@ -30,8 +30,8 @@ abbrev pub Emits : Setting → ℕ → List (List ℕ) → List ℕ → Type 0
 Emits s n lines text =
     (events : List Happened) × IsAudit s lines events × (text ≡ given_lines s n events)
 
--- behind some lines a line says an event that breaks a premise: of the first comparison that fails both
--- sides are told
+-- after some lines a line says an event that breaks a premise: both sides of the first comparison that
+-- fails are given
 pub record Breaks (s : Setting) (lines : List (List ℕ)) (line last : List ℕ) : Type 0 where
   pub events : List Happened
   pub audit : IsAudit s lines events
@@ -43,7 +43,7 @@ pub record Breaks (s : Setting) (lines : List (List ℕ)) (line last : List ℕ)
   pub told : told_of (checks_of s (world_after s events) says event) ≡ Some breach
   pub is : last ≡ broken_line (length lines + 1) breach
 
--- behind some lines a line is no event, or one that breaks a premise
+-- after some lines a line is no event, or an event that breaks a premise
 abbrev pub AuditRefuses : Setting → List (List ℕ) → List ℕ → Refusal → List ℕ → Type 0
 AuditRefuses s lines line BadTrace last =
     (fault : TraceFault) × (event_read s.cfg line ≡ Err fault)
@@ -55,18 +55,18 @@ abbrev pub AuditCloses : Setting → List (List ℕ) → List ℕ → Type 0
 AuditCloses s lines last =
     (events : List Happened) × IsAudit s lines events × (last ≡ all_counts s (world_after s events))
 
--- behind the inputs of a node nothing is written
+-- after the inputs of a node nothing is written
 abbrev pub EmitCloses : List (List ℕ) → List ℕ → Type 0
 EmitCloses lines last = last ≡ []
 
--- what the record lines of an audit mean, and what those of the inputs of a node
+-- what the record lines mean for an audit, and what they mean for the inputs of a node
 abbrev pub audit_of : Setting → LineMeaning
 audit_of s = meaning_by (Audits s) (AuditRefuses s) (AuditCloses s) bars_none
 
 abbrev pub emission_of : Setting → ℕ → LineMeaning
 emission_of s n = meaning_by (Emits s n) (AuditRefuses s) EmitCloses bars_none
 
--- by what is asked for: the inputs of a node, or else the lines of all
+-- by what is asked for: the inputs of a node, or otherwise the lines of all nodes
 abbrev pub meaning_for : Option ℕ → Setting → LineMeaning
 meaning_for None s = audit_of s
 meaning_for (Some n) s = emission_of s n

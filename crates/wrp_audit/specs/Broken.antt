@@ -21,7 +21,7 @@ premise_name premise =
     else if premise == 13 then codes "NotUp"
     else []
 
--- the last line where an event, counted from 1, breaks a premise
+-- the last line of output if an event, counted from 1, breaks a premise
 abbrev pub broken_line : ℕ → Breach → List ℕ
 broken_line number breach =
     broken_words number breach.premise (premise_name breach.premise) breach.shown breach.bound

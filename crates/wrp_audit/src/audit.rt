@@ -31,8 +31,8 @@ use wrp_records::{Refusal, Taken};
 use wrp_trace::{EventPlace, append_input_line};
 use wrp_world::{NodeOut, Refused, World};
 
-/// A network as far as it is audited: its world, the node whose inputs are asked for, if one is, the bounds of its
-/// nodes in TRACK, and a place for the steps of an event.
+/// A network as far as it is audited: its world, the node whose inputs are asked for, if there is one, the bounds
+/// of its nodes in TRACK, and a place for the steps of an event.
 #[derive(Drop)]
 pub struct AuditedNetwork<F> {
     world: World<F>,
@@ -43,7 +43,7 @@ pub struct AuditedNetwork<F> {
 
 impl<F: Fn(i64) -> i64> AuditedNetwork<F> {
     /// A network before its first event, with the laws of the links above its nodes. `AllocError`
-    /// where there is no memory for it: no network is made.
+    /// if memory runs out: no network is made.
     pub fn new(
         alloc: Global,
         net: Network,
@@ -76,8 +76,8 @@ impl<F: Fn(i64) -> i64> AuditedNetwork<F> {
         self.world.net()
     }
 
-    /// Appends the lines that close the records. `AllocError` where there is no memory: then
-    /// nothing is known of `text`.
+    /// Appends the lines that close the records. `AllocError` if memory runs out: then nothing is
+    /// known of `text`.
     pub fn append_last(&self, text: &mut Vec<u8>) -> Result<(), AllocError>
         requires ready { CanAudit F.pre F.post self.now }
         requires none { text.old.items ≡ [] }
@@ -91,9 +91,9 @@ impl<F: Fn(i64) -> i64> AuditedNetwork<F> {
         }
     }
 
-    /// Takes the event that a place has, and appends what its steps write, or the line that names
-    /// the premise that it breaks. `AllocError` where there is no memory: then nothing is known of
-    /// `text`, nor whether the event was taken, so the audit ends.
+    /// Takes the event that a place holds, and appends what its steps write, or the line that names
+    /// the premise that it breaks. `AllocError` if memory runs out: then nothing is known of
+    /// `text`, nor of whether the event was taken, so the audit ends.
     pub fn happen(
         &mut self,
         alloc: Global,
@@ -154,7 +154,7 @@ impl<F: Fn(i64) -> i64> AuditedNetwork<F> {
     }
 }
 
-// Appends what these steps write in an event that left this world.
+// Appends what these steps write in an event that led to this world.
 fn append_steps<F: Fn(i64) -> i64>(
     alloc: Global,
     world: &World<F>,
@@ -199,7 +199,7 @@ fn append_one<F: Fn(i64) -> i64>(
     }
 }
 
-// Appends the lines of what a node put out in an event that left this world.
+// Appends the lines of what a node put out in an event that led to this world.
 fn append_step<F: Fn(i64) -> i64>(
     alloc: Global,
     world: &World<F>,
@@ -222,7 +222,7 @@ fn append_step<F: Fn(i64) -> i64>(
     append_outputs(alloc, name, ticks, bound, Some(off), &out.outs, text)
 }
 
-// Appends the lines of a node's outputs at a tick, with its true offset where that is known.
+// Appends the lines of a node's outputs at a tick, with its true offset if it is known.
 fn append_outputs(
     alloc: Global,
     name: &str,
@@ -241,7 +241,7 @@ fn append_outputs(
     Ok(())
 }
 
-// Appends the line of the input that a step gave the node, where the step is its own.
+// Appends the line of the input that a step gave the node, if the step is the node's own.
 fn append_given(
     alloc: Global,
     net: &Network,

@@ -1,4 +1,4 @@
-//! The lines of an audit, of which each says an event.
+//! The lines of an audit, each of which says an event.
 ghost use Rattle.std.specs.Prelude.{◌≡◌, ◌<◌, [], IfOk, IfSome, OnOk};
 ghost use Rattle.wrp_network.specs.Network.{node_count};
 ghost use Rattle.wrp_config.specs.Accepted.{HasNames, IsAccepted};
@@ -21,8 +21,8 @@ use wrp_law::DelayLaw;
 use wrp_records::{Closing, Machine, Taken, refuse};
 use wrp_trace::{EventPlace, read_event_into};
 
-/// What takes the lines of an audit: the network as far as it is audited, and the place that each line's event is
-/// read into.
+/// What takes the lines of an audit: the network as far as it is audited, and the place into which each line's
+/// event is read.
 #[derive(Drop)]
 pub struct AuditLines<F> {
     pub network: AuditedNetwork<F>,
@@ -30,7 +30,7 @@ pub struct AuditLines<F> {
 }
 
 impl<F: Fn(i64) -> i64> AuditLines<F> {
-    /// Before the first line. `AllocError` where there is no memory for it: nothing is made.
+    /// Before the first line. `AllocError` if memory runs out: nothing is made.
     #[inline(never)]
     pub fn new(
         alloc: Global,

@@ -30,8 +30,7 @@ fn premise_name(premise: u8) -> &'static str
 }
 
 /// Appends the line of an event that breaks a premise: the number of the premise, and both sides of
-/// the comparison that fails. `AllocError` where there is no memory: then nothing is known of
-/// `text`.
+/// the comparison that fails. `AllocError` if memory runs out: then nothing is known of `text`.
 pub fn append_broken(
     alloc: Global,
     text: &mut Vec<u8>,

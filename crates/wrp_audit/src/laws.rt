@@ -4,7 +4,7 @@ ghost use Rattle.wrp_audit.specs.AuditLaws.{OneAudit};
 use wrp_servo::told_last;
 
 /// The same record lines are one run of their network: one text is written, and the same premise is the
-/// first that an event breaks, whatever is noted beside octets and measurements.
+/// first that an event breaks, whatever is noted apart from octets and measurements.
 pub fn one_audit()
     ensures { OneAudit }
 {

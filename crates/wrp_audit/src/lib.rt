@@ -1,5 +1,6 @@
-//! The audit of a network: its record lines are events, each is tried against the premises of the world, and what the steps of
-//! its nodes put out is written with their true offsets, or the inputs that a node was given. Lines are this project's profile.
+//! The audit of a network: its record lines are events, and each is tried against the premises of the world. What
+//! the steps of its nodes put out is written with their true offsets, or the inputs that a node was given are
+//! written. Lines are this project's profile.
 #![tactic(auto)]
 
 mod audit;

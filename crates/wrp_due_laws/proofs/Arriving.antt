@@ -1,4 +1,4 @@
--- Of the frames that are on a fibre one is due first, if there is one.
+-- One of the frames on fibres is due first, if there is any.
 use Rattle.std.proofs.Common.{◌≡◌, ◌∙◌, ◌⊎◌, inl, inr, refl, sym, ap, subst, ℕ, zero, suc, ℤ, ◌+◌, ◌<◌, ◌≤◌, ◌<ℤ◌, ◌≤ℤ◌, ◌==◌, Bool, true, false, if◌then◌else◌, List, [], ◌∷◌, Option, None, Some, option_map, arith}
 use Rattle.std.proofs.lemmas.Bool.{cases_Bool, cases_lt, eqb-true, true≢false}
 use Rattle.std.proofs.lemmas.Int.{by_lt_z, ints}
@@ -83,14 +83,14 @@ record IsFirst (w : WorldAt) (count i : ℕ) (due : ℤ) : Type 0 where
 abbrev Found : WorldAt → ℕ → Type 0
 Found w count = NoneFlies w count ⊎ ((i : ℕ) × (due : ℤ) × IsFirst w count i due)
 
--- the next number is the last of those that are less than one more
+-- the next number is the last of those below its successor
 last_of : (i count : ℕ) → i < suc count → count ≤ i → count ≡ i
 last_of i count below past = omega (arith, below, past)
 
 same_due : (w : WorldAt) (i j : ℕ) (f g : FrameAt) → i ≡ j → w.frame i ≡ Some f → w.frame j ≡ Some g → f.due ≡ g.due
 same_due w i j f g same is there = ap (λ (k : FrameAt). k.due) (same_Some f g (sym is ∙ ap w.frame same ∙ there))
 
--- where the next is on no fibre
+-- if the next frame is on no fibre
 still_none : (w : WorldAt) (count : ℕ) → is_on_fibre (w.frame count) ≡ false → NoneFlies w count → NoneFlies w (suc count)
 still_none w count out none i below =
     elim (cases_lt i count) [
@@ -112,7 +112,7 @@ still_first w count i due out h = record {
       ];
 }
 
--- where it is the only one
+-- if it is the only one
 only_first : (w : WorldAt) (count : ℕ) (f : FrameAt) → w.frame count ≡ Some f → is_on_fibre (w.frame count) ≡ true → NoneFlies w count → IsFirst w (suc count) count f.due
 only_first w count f is out none = record {
   frame = f;
@@ -127,7 +127,7 @@ only_first w count f is out none = record {
       ];
 }
 
--- where it is due sooner than the first of the others
+-- if it is due sooner than the first of the others
 sooner_than : (a b c : ℤ) (i j : ℕ) (g : FrameAt) → a <ℤ b → IsNoSooner i b j g → a <ℤ g.due
 sooner_than a b c i j g less (inl more) = omega (arith, ints, less, more)
 sooner_than a b c i j g less (inr same) = let is = same.0 in omega (arith, ints, less, is)
@@ -146,7 +146,7 @@ sooner_first w count i due f is out less h = record {
       ];
 }
 
--- where it is due no sooner
+-- if it is not due sooner
 no_sooner : (i count : ℕ) (due : ℤ) (g : FrameAt) → i < count → due ≤ℤ g.due → IsNoSooner i due count g
 no_sooner i count due g below most =
     by_lt_z due g.due (λ less. inl less) (λ least. inr (omega (arith, ints, most, least), omega (arith, below)))
@@ -214,6 +214,6 @@ arrival_by : (w : WorldAt) → IsNumbered w → Found w (suc w.departed) → (du
 arrival_by w h (inl none) = (None, all_none w h none)
 arrival_by w h (inr first) = (Some (first.0, first.1), all_first w first.0 first.1 h first.2)
 
--- so one is due first after all events, or none is on a fibre
+-- so after all events one frame is due first, or no frame is on a fibre
 pub next_arrival : (s : Setting) (events : List Happened) → (due : Option (ℕ × ℤ)) × IsNextArrival (world_after s events) due
 next_arrival s events = arrival_by (world_after s events) (numbered_after s events) (found_below (world_after s events) (suc (world_after s events).departed))

@@ -1,4 +1,4 @@
--- What a node sends is spelled by its octets: each number of it fits the octets in which it is told.
+-- What a node sends is spelled by its octets: each number of it fits the octets that carry it.
 use Rattle.std.proofs.Common.{◌≡◌, refl, sym, subst, ℕ, ℤ, pos, negsuc, ◌+◌, ◌-◌, ◌*◌, ◌%◌, ◌<◌, ◌≤◌, ◌^◌, ◌-ℤ◌, ◌==◌, ◌&&◌, lit<, nat_lt, min, unsigned_abs, Bool, true, false, if◌then◌else◌, List, [], ◌∷◌, ◌++◌, drop, length, length-append, Option, None, Some, IfSome, is_some, Result, Ok, Err, arith}
 use Rattle.std.specs.Int.{w64, cast_unsigned, saturate_signed}
 use Rattle.std.specs.List.{AllByRecursion}
@@ -65,7 +65,7 @@ use Rattle.wrp_recorded_laws.proofs.Frames.{frame_fits}
 use Rattle.wrp_due_laws.proofs.LinkFitting.{CarrierFits, LinkFits, heard_fits, ticked_fits}
 use Rattle.wrp_due_laws.proofs.SetFitting.{FitsPort}
 
--- What a message has beside its times
+-- What a message has apart from its times
 
 abbrev FitsOthers : Body → Type 0
 FitsOthers (Sync origin) = Unit {0}

@@ -1,5 +1,5 @@
--- What the octets of an event say, and the answer of the links' laws with which it can come: behind the first input of an
--- event no frame is given.
+-- What the octets of an event say, and the answer of the links' laws with which it can come: after the first input
+-- of an event no frame is given.
 use Rattle.std.proofs.Common.{◌≡◌, ◌⊎◌, inl, inr, refl, sym, subst, ap, ℕ, ℤ, pos, ◌==◌, Bool, true, false, if◌then◌else◌, List, [], ◌∷◌, Option, None, Some, option_map, Result, Err}
 use Rattle.std.specs.Option.{option_map_or}
 use Rattle.std.proofs.lemmas.Bool.{eqb-true}
@@ -54,7 +54,7 @@ NoFrame x = is_frame x ≡ false
 abbrev ArePlain : List Given → Type 0
 ArePlain gs = AllGiven NoFrame gs
 
--- behind the first all are
+-- all inputs after the first are not frames
 abbrev FirstAlone : List Given → Type 0
 FirstAlone [] = Unit {0}
 FirstAlone (g ∷ gs) = ArePlain gs
@@ -107,7 +107,7 @@ given_alone s w v says (Join k ms sm) =
 
 -- The answers of the laws, which are functions
 
--- each answer to a measurement is that of its link's law, by the node below the link
+-- each answer to a measurement is the answer of its link's law, by the node below the link
 abbrev pub AnsweredBy : (ℕ → ℤ → ℤ) → Setting → WorldAt → Type 0
 AnsweredBy law s w = IsAnswered (λ n. answers_by (law n)) s w
 
@@ -136,7 +136,7 @@ given_all law s v (g ∷ gs) alone h =
 pub event_answered : (law : ℕ → ℤ → ℤ) (s : Setting) (w : WorldAt) (says : Result PtpMsg FrameFault) (e : Event) → AnsweredBy law s w → (y : ℤ) × AnsweredBy law s (world_step s says y w e)
 event_answered law s w says e h = given_all law s (moved s w e) (given_by s w (moved s w e) says e) (given_alone s w (moved s w e) says e) (λ n. h n)
 
--- Premises: an event keeps all, or one is the first that it breaks
+-- Premises: an event keeps all premises, or one of them is the first that it breaks
 
 tried_as : (checks : List Check) (o : Option Check) → first_broken checks ≡ o → (first_broken checks ≡ None) ⊎ ((breach : Breach) × (told_of checks ≡ Some breach))
 tried_as checks None is = inl is

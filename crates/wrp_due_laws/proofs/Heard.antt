@@ -99,7 +99,7 @@ entry_fits s k r name (Some x) sound e = linked_small s r name x (link_of s k) s
 abbrev pub SentFits : List Sending → Type 0
 SentFits sent = AllByRecursion (λ (x : Sending). IsSendable x.message) sent
 
--- a frame that arrived, if it did, did so with a raw stamp in its ranges
+-- if a frame arrived, it did so with a raw stamp in its ranges
 abbrev CameRaw : Option Arrival → Type 0
 CameRaw arrival = IfSome arrival (λ (a : Arrival). IsRaw a.raw)
 
@@ -344,7 +344,7 @@ pub all_heard : (s : Setting) → IsAccepted s.cfg s.db → ((n : ℕ) → s.set
 all_heard s accepted set events hand said n =
     (spells_after s accepted.database (λ m p. subst (λ x. FitsPort (setting_of x p)) (sym (set m)) (port_fits s.cfg accepted.ranges m p)) events hand said).heard n
 
--- so it is with the events of lines
+-- this holds for the events of lines
 
 ranged_on : (e : Event) → IsRanged e → HandsOn e
 ranged_on (Depart n p stamp) is = is

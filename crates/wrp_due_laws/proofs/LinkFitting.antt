@@ -1,4 +1,4 @@
--- What a link sends fits its octets, where the delays of its module do.
+-- What a link sends fits its octets, if the delays of its module do.
 use Rattle.std.proofs.Common.{ℕ, ◌<◌, ◌^◌, ◌==◌, ◌&&◌, nat_le, nat_lt, lit<, Bool, true, false, if◌then◌else◌, [], ◌∷◌, Option, None, Some, IfSome, Result, Ok, Err}
 use Rattle.std.specs.List.{AllByRecursion}
 use Rattle.wrp_base.specs.declared.link.LinkState.{LinkState}
@@ -28,11 +28,11 @@ use Rattle.wrp_port.specs.History.{input_unless}
 use Rattle.wrp_port.specs.Outputs.{link_sends}
 use Rattle.wrp_tlv.specs.WhiteRabbit.{FitsOctets}
 
--- a module's delays fit the octets in which they are told
+-- a module's delays fit the octets that carry them
 abbrev pub FitsModule : Module → Type 0
 FitsModule m = (m.tx < 256 ^ 8) × (m.rx < 256 ^ 8)
 
--- a link's module fits, where it is listed
+-- a link's module fits, if it is listed
 abbrev pub LinkFits : LinkAt → Type 0
 LinkFits l = IfSome l.own_module FitsModule
 
@@ -122,7 +122,7 @@ row_fits l h (link_in.Tick locked) may = under_fits l h l.carrier (tick_row l l.
 row_fits l h link_in.CarrierDown may = under_fits l h l.carrier CarrierGoes (record { sends = tt; stays = tt })
 row_fits l h (link_in.CarrierUp own_module) may = record { sends = tt; stays = may }
 
--- what a message is to a link fits
+-- what a message means to a link fits
 body_fits : (role : Role) (body : Body) → IfSome (link_input role body) LinkInFits
 body_fits Slave (Sync origin) = tt
 body_fits Slave (DelayReq origin) = tt

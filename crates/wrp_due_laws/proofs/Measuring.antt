@@ -23,12 +23,12 @@ use Rattle.wrp_servo.specs.Measuring.{deltas_in_chain, x_of}
 use Rattle.wrp_servo.specs.Servo.{AllAnswered, IsAnswer}
 use Rattle.wrp_servo.specs.Told.{lease_told, link_told}
 
--- the law's answer to a measurement, where it is asked
+-- the law's answer to a measurement, if it is asked
 answer_by : (law : ℤ → ℤ) (x : ServoSetting) (v : Core) (f : Four) (o : Option Deltas) → deltas_in_chain v ≡ o → (y : ℤ) × IsAnswer (answers_by law) x v f y
 answer_by law x v f None is = (pos 0, λ d there within. let both : None ≡ Some d = sym is ∙ there in absurd (cc))
 answer_by law x v f (Some e) is = (law (x_of e f), λ d there within. ap (λ (k : Deltas). law (x_of k f)) (same_Some e d (sym is ∙ there)))
 
--- Calls that are no measurement
+-- Calls that are not measurements
 
 abbrev IsQuiet : Option Call → Type 0
 IsQuiet (Some (CallMeasured f y)) = ⊥
@@ -67,7 +67,7 @@ settled_answered answers x fixed s h =
     quiet_called answers x (link_change fixed leased.node) leased.node.calls (link_quiet fixed leased.node)
     (quiet_called answers x (lease_change fixed s.node) s.node.calls (lease_quiet fixed s.node) h)
 
--- no input but a frame makes a measurement
+-- only a frame makes a measurement
 plain_stepped : (answers : ℤ → ℤ → Type 0) (x : ServoSetting) (fixed : NodeSetting) (input : Input) (says : Result PtpMsg FrameFault) (y : ℤ) (n : NodeAt) → is_frame input ≡ false
     → AllAnswered answers x n.calls → AllAnswered answers x (stepped fixed input says y n).node.calls
 plain_stepped answers x fixed Tick says y n plain h =
@@ -88,7 +88,7 @@ plain_answered answers fixed t n plain h =
     settled_answered answers (servo_setting_of fixed) fixed (stepped fixed t.input t.says t.answer n)
     (plain_stepped answers (servo_setting_of fixed) fixed t.input t.says t.answer n plain h)
 
--- a frame makes one at most
+-- a frame makes at most one
 measured_answered : (law : ℤ → ℤ) (x : ServoSetting) (o : Option Four) (calls : List Call) (b : Bool) → AllAnswered (answers_by law) x calls
     → (y : ℤ) × AllAnswered (answers_by law) x (called (if b then measurement_by o y else None) calls)
 measured_answered law x None calls true h = (pos 0, h)

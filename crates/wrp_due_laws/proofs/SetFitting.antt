@@ -1,4 +1,4 @@
--- The numbers that a node's ports are set to fit the octets in which they are told.
+-- The numbers that a node's ports are set to fit the octets that carry them.
 use Rattle.std.proofs.Common.{◌≡◌, refl, subst, ℕ, zero, suc, ◌<◌, ◌≤◌, ◌^◌, ◌==◌, lit<, Bool, true, false, if◌then◌else◌, List, [], ◌∷◌, flat_map, Option, None, Some, arith}
 use Rattle.std.specs.Prelude.{slice_get}
 use Rattle.std.specs.List.{AllByRecursion, find}
@@ -94,7 +94,7 @@ found_fits : (p : ℕ) (xs : List PortDs) (o : Option PortDs) → AllByRecursion
 found_fits p xs None all is = (record { clock = lit< tt; port = lit< tt }, record { clock = lit< tt; port = lit< tt })
 found_fits p xs (Some ds) all is = let at = found_at (λ (d : PortDs). d.own.port == p) xs ds is in item_fits xs at.0 ds all at.1
 
--- so it is at each number
+-- this holds for each number
 pub port_fits : (cfg : NetCfg) → HasRanges cfg → (n p : ℕ) → FitsPort (setting_of (set_of cfg n) p)
 port_fits cfg ranges n p =
     let ds : FitsDs (port_of (set_of cfg n) p) =

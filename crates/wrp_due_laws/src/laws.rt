@@ -1,13 +1,13 @@
-//! Laws of what is due: functions whose contracts are the laws.
+//! Laws of what is expected: functions whose contracts are the laws.
 ghost use Rattle.wrp_due_laws.specs.Due.{EachInputIsAnswered, EachIsInspected, EachSays};
 ghost use Rattle.wrp_due_laws.specs.Due.{FramesAreHeard, OneIsDueFirst};
 
-/// Each octets spell a message, or have a first fault.
+/// Any octets spell a message, or have a first fault.
 pub fn each_says()
     ensures { EachSays }
 {}
 
-/// Where a delay law is a function, each input of a node can be taken with an answer of it.
+/// If a delay law is a function, each input of a node can be taken with an answer of that law.
 pub fn each_input_is_answered()
     ensures { EachInputIsAnswered }
 {}
@@ -18,12 +18,12 @@ pub fn frames_are_heard()
     ensures { FramesAreHeard }
 {}
 
-/// After all events of every run one frame on a fibre is due first, if there is one.
+/// After all events of every run, one frame on a fibre is due first, if there is one.
 pub fn one_is_due_first()
     ensures { OneIsDueFirst }
 {}
 
-/// For each input that is inspected some status and octets are due.
+/// For each input that is inspected some status and octets are expected.
 pub fn each_is_inspected()
     ensures { EachIsInspected }
 {}

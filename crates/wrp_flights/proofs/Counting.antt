@@ -16,14 +16,14 @@ use Rattle.wrp_flights.specs.Frames.{at, numbers_from, sent_at}
 use Rattle.wrp_flights.proofs.Passing.{same_number}
 use Rattle.wrp_flights.proofs.Putting.{equal_numbers}
 
--- of so many numbers from one on, how many are so
+-- how many of so many numbers, from one on, pass a test
 abbrev pub counted : (ℕ → Bool) → (n first : ℕ) → ℕ
 counted test n first = count_by test (numbers_from n first)
 
 count_next : (f : ℕ → Bool) (n a : ℕ) → counted f (suc n) a ≡ cond (f a) 1 0 + counted f n (a + 1)
 count_next f n a = sum_by-cons (λ x. cond (f x) 1 0) a (numbers_from n (a + 1))
 
--- the two are alike at all of them
+-- the two tests agree on all of them
 pub count_alike : (f g : ℕ → Bool) (n a : ℕ) → ((k : ℕ) → a ≤ k → f k ≡ g k) → counted f n a ≡ counted g n a
 count_alike f g zero a e = refl
 count_alike f g (suc n) a e =
@@ -34,7 +34,7 @@ count_none : (f : ℕ → Bool) (n a : ℕ) → ((k : ℕ) → f k ≡ false) �
 count_none f zero a e = refl
 count_none f (suc n) a e = count_next f n a ∙ ap₂ (λ b m. cond b 1 0 + m) (e a) (count_none f n (a + 1) e)
 
--- they differ at one number alone
+-- they differ at only one number
 count_one_more : (f g : ℕ → Bool) (k n a : ℕ) → a ≤ k → k < a + n → f k ≡ true → g k ≡ false → ((q : ℕ) → (q ≡ k → ⊥) → f q ≡ g q) →
     counted f n a ≡ counted g n a + 1
 count_one_more f g k zero a l m t e same = absurd (omega (arith, l, m))
@@ -59,7 +59,7 @@ count_one_more f g k (suc n) a l m t e same = by_test (λ over. count_one_more f
       let two : counted g (suc n) a ≡ cond (g a) 1 0 + counted g n (a + 1) = count_next g n a in
       omega (arith, more, one, two)
 
--- a number that is below all keys is none of them
+-- a number below all keys is not one of them
 not_less : (r : Ordering) → r ≡ Less → is_eq r ≡ false
 not_less Less e = refl
 not_less Equal e = absurd cc

@@ -1,4 +1,4 @@
--- The frame on a fibre that is due first: the first one of those that are ordered by the times at which they are due.
+-- The frame on a fibre that is due first: the first of those that are ordered by the times at which they are due.
 use Rattle.std.proofs.Common.{◌≡◌, ◌∙◌, refl, ap, sym, subst, ℕ, ◌<◌, ◌≤◌, ◌⊎◌, inl, inr, ℤ, ◌<ℤ◌, Bool, true, false, cond, List, [], ◌∷◌, length, Option, None, Some, arith}
 use Rattle.std.proofs.lemmas.Bool.{false_from_ne_true}
 use Rattle.std.proofs.lemmas.Int.{ints}
@@ -30,7 +30,7 @@ no_later a b e = by_ranks (int_cmp a.0 b.0) (nat_cmp a.1 b.1) (int_ranks a.0 b.0
   by_ranks Equal Greater m n e = absurd cc
   by_ranks Greater s m n e = absurd cc
 
--- two that both come first have one number
+-- if both of two come first, they have the same number
 one_first : (a b : ℤ × ℕ) → is_gt (age_cmp a b) ≡ false → is_gt (age_cmp b a) ≡ false → a.1 ≡ b.1
 one_first a b e f = elim (no_later a b e) [
   | inl less ↦ elim (no_later b a f) [

@@ -20,11 +20,11 @@ use Rattle.wrp_flights.proofs.Passing.{same_number}
 use Rattle.wrp_flights.proofs.Putting.{equal_numbers}
 use Rattle.wrp_flights.proofs.Staying.{CameFrom, Stills, came_from}
 
--- each frame is lost already, or is as it was, and its number still to come
+-- each frame is lost already, or is as it was with its number still to come
 pub record Losing (h : ℤ) (change : ℕ → Departed → Departed) (before now : List (ℕ × Departed)) (left : List ℕ) : Type 0 where
   pub each : (q : ℕ) → (at q now ≡ turn_in h (change q) (at q before)) ⊎ ((at q now ≡ at q before) × (has_number q left ≡ true))
 
--- what is lost twice is lost once, and only frames on a fibre are lost
+-- losing a frame twice is the same as losing it once, and only frames on a fibre are lost
 pub record Loses (change : ℕ → Departed → Departed) : Type 0 where
   pub again : (q : ℕ) (d : Departed) → change q (change q d) ≡ change q d
   pub off : (q : ℕ) (d : Departed) → is_on d ≡ false → change q d ≡ d
@@ -149,7 +149,7 @@ losing_all h change before now numbers i l p q =
       no_number : false ≡ true → ⊥
       no_number e = cc
 
--- a frame that is on a fibre afterwards was before
+-- a frame that is on a fibre afterwards was on it before
 pub lost_lists : (h : ℤ) (links : List LinkCfg) (loss : Loss) (kept after : List (ℕ × Departed)) (numbers : List ℕ) → Settled h kept numbers →
     ((q : ℕ) → at q after ≡ turn_in h (lost_by links loss q) (at q kept)) → Lists after numbers
 lost_lists h links loss kept after numbers s e k d i on =
@@ -224,7 +224,7 @@ arrives_kept h reception j link by links kept between after e f q =
     f q ∙ ap (turn_in h (lost_by links (Older j link by) q)) (e q)
     ∙ arrives_one h reception j link by q (at q kept) (is_at (nat_cmp j) q) (q == j) (equal_numbers j q)
 
--- frames that are lost are due when they were, and none comes to be on a fibre
+-- frames that are lost are due when they were due before, and none comes to be on a fibre
 pub lost_stills : (links : List LinkCfg) (loss : Loss) → Stills (lost_by links loss)
 lost_stills links loss = record { due = λ q d. refl; on = λ q d e. on_was d.gone (is_some d.arrival) (meets links loss q d) e }
 

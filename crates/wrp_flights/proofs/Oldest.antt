@@ -1,4 +1,4 @@
--- The oldest of ages.
+-- The oldest of the ages.
 use Rattle.std.proofs.Common.{◌≡◌, ◌∙◌, sym, ℕ, ℤ, ◌<ℤ◌, ◌≤ℤ◌, ◌<◌, Bool, cond, true, false, List, [], ◌∷◌, length, arith}
 use Rattle.std.proofs.lemmas.Int.{ints}
 use Rattle.std.specs.Bool.{IsTrue}

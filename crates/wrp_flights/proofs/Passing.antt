@@ -1,4 +1,4 @@
--- Frames pass out of the window, one after the other.
+-- Frames leave the window, one after the other.
 use Rattle.std.proofs.Common.{◌≡◌, ◌∙◌, refl, ap, sym, subst, ℕ, ℤ, ◌<ℤ◌, ◌≤ℤ◌, ◌⊎◌, inl, inr, Bool, true, false, cond, if◌then◌else◌, List, Option, None, Some, arith}
 use Rattle.std.proofs.lemmas.Int.{ints}
 use Rattle.std.proofs.lemmas.Map.Lookups.{exact_unsigned}
@@ -12,7 +12,7 @@ use Rattle.wrp_flights.specs.Ages.{Listed, NoneOld, Owns, TookOld, has, on_only}
 use Rattle.wrp_flights.specs.Departed.{is_on, is_young, kept_in}
 use Rattle.wrp_flights.specs.Frames.{at}
 
--- at each number: what was kept stays, or is out since it is on no fibre and old
+-- at each number: what was kept stays, or is gone because it is on no fibre and old
 abbrev pub StaysOrOld : ℤ → (before now : Option Departed) → Type 0
 StaysOrOld h before now = (now ≡ before) ⊎ ((now ≡ None) × (kept_in h before ≡ None))
 
@@ -73,7 +73,7 @@ on_only_is (Some g) f e = by_test (is_on g) refl where
   by_test true on = let same : Some g ≡ Some f = sym (on_kept g on) ∙ e in (same, subst (λ x. is_on x ≡ true) (some_is g f same) on)
   by_test false off = absurd (none_is f (sym (on_not g off) ∙ e))
 
--- One passes out
+-- One leaves the window
 
 was_there : (h : ℤ) (before now : Option Departed) (f : Departed) → StaysOrOld h before now → now ≡ Some f → before ≡ Some f
 was_there h before now f s e = elim s [ inl same ↦ sym same ∙ e | inr out ↦ absurd (none_is f (sym out.0 ∙ e)) ]
@@ -109,7 +109,7 @@ step h before ages kept left k after rest own p t out = record {
       let old : is_young h f ≡ false = old_one q f (same_number k q g) it.0 in
       elim on [ inl off ↦ absurd cc | inr young ↦ absurd cc ]
 
--- All that are old have passed out
+-- All that are old have left the window
 
 pub all_out :
     (h : ℤ) (before : List (ℕ × Departed)) (ages : List (ℤ × ℕ)) (kept : List (ℕ × Departed)) (left : List (ℤ × ℕ)) →

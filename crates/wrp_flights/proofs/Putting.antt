@@ -1,4 +1,4 @@
--- What the window keeps as a frame departs.
+-- What the window keeps when a frame departs.
 use Rattle.std.proofs.Common.{◌≡◌, ◌∙◌, refl, ap, sym, subst, ℕ, zero, suc, ◌+◌, ◌≤◌, ◌==◌, ◌||◌, ℤ, Bool, true, false, cond, if◌then◌else◌, List, [], ◌∷◌, ◌++◌, length, Option, Some, slice_get, arith}
 use Rattle.std.proofs.lemmas.Map.Lookups.{exact_pairs, exact_signed, exact_unsigned}
 use Rattle.std.proofs.lemmas.Option.{slice_get_within}
@@ -78,7 +78,7 @@ past_last : (sent : List ℤ) (n k : ℕ) (x : ℤ) → n ≡ length sent + 1 �
 past_last sent n zero x e g i = absurd (omega (arith, e, g))
 past_last sent n (suc k) x e g i = let l = slice_get_within sent k x i in absurd (omega (arith, e, g, l))
 
--- a frame that could not be put, since there was no memory
+-- a frame that could not be put, because memory ran out
 pub not_put_aged :
     (h : ℤ) (sent : List ℤ) (kept : List (ℕ × Departed)) (ages more : List (ℤ × ℕ)) (n : ℕ) (time : ℤ) → n ≡ length sent + 1 → Aged h sent kept ages →
     ((t : ℤ) (k : ℕ) → is_at (age_cmp (time, n)) (t, k) ≡ false → has t k more ≡ has t k ages) →
@@ -93,7 +93,7 @@ not_put_aged h sent kept ages more n time e a stays fewer = record {
   other k f i true x = absurd (past_last sent n k f.sent e (same_number_of (time, n) (f.sent, k) x) (a.told k f i))
   other k f i false x = x
 
--- The numbers of those on a fibre
+-- The numbers of the frames on a fibre
 
 listed_more : (k n : ℕ) (numbers : List ℕ) → has_number k numbers ≡ true → has_number k (numbers ++ n ∷ []) ≡ true
 listed_more k n [] e = absurd cc
@@ -221,7 +221,7 @@ not_put_holds h sent kept after ages more numbers dues ordered n time due e s a 
   orders = subst (λ x. Orders x after ordered) (sym same) (subst (λ x. Orders sent x ordered) (sym alike) (not_put_orders sent kept dues ordered n due e s.orders o));
 }
 
--- a number is told by its order as by itself
+-- comparing two numbers by their order is the same as comparing the numbers
 pub equal_numbers : (n k : ℕ) → is_at (nat_cmp n) k ≡ (k == n)
 equal_numbers n k = unsigned_tied n k ∙ search arith
 

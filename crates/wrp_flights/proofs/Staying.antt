@@ -1,4 +1,4 @@
--- What the window keeps as frames change, depart and pass out.
+-- What the window keeps when frames change, depart and leave.
 use Rattle.std.proofs.Common.{◌≡◌, ◌∙◌, refl, ap, sym, subst, ℕ, ℤ, ◌≤ℤ◌, ◌⊎◌, inl, inr, Bool, true, false, if◌then◌else◌, List, Option, None, Some, arith}
 use Rattle.std.proofs.lemmas.Int.{ints}
 use Rattle.std.specs.Int.Signed.{le_z}
@@ -69,7 +69,7 @@ settles h sent kept ages numbers dues s k d e = by_test (is_on d) refl where
   by_test true on = inl (s.lists k d e on)
   by_test false off = inr (off, kept_young h d (s.aged.kept_is k d e) off)
 
--- the due times stay, and no frame comes to be on a fibre
+-- the due times are unchanged, and no frame comes to be on a fibre
 pub record Stills (change : ℕ → Departed → Departed) : Type 0 where
   pub due : (q : ℕ) (d : Departed) → (change q d).due ≡ d.due
   pub on : (q : ℕ) (d : Departed) → is_on (change q d) ≡ true → is_on d ≡ true
@@ -92,7 +92,7 @@ turned_dues h kept after dues change still l e k d i on =
     let due : d.due ≡ it.from.due = ap (λ (x : Departed). x.due) (sym it.same) ∙ still.due k it.from in
     ap (λ t. has t k dues) due ∙ l k it.from it.was (still.on k it.from (ap is_on it.same ∙ on))
 
--- after that, those before the first that is on a fibre were taken out
+-- after that, the frames before the first one that is on a fibre were taken out
 pub settled_orders :
     (h : ℤ) (sent : List ℤ) (kept after : List (ℕ × Departed)) (dues left : List (ℤ × ℕ)) (change : ℕ → Departed → Departed) → Stills change → Orders sent kept dues →
     ((q : ℕ) → at q after ≡ turn_in h (change q) (at q kept)) → Dues after left → FirstIs true after left → ((t : ℤ) (k : ℕ) → has t k left ≡ true → has t k dues ≡ true) →

@@ -1,5 +1,5 @@
--- The ages of frames that are kept: when they were put out, each with its number, and how frames pass out by them (this
--- project's profile).
+-- The ages of frames that are kept: when they were put out, each with its number, and how frames are dropped by
+-- their ages (this project's profile).
 use Rattle.std.specs.Prelude.{◌≡◌, ◌<◌, ◌<ℤ◌, ◌≤ℤ◌, ◌⊎◌, ℕ, ℤ, Bool, true, false, cond, if◌then◌else◌, List, length, Option, None, Some}
 use Rattle.std.specs.BTreeMap.{is_at}
 use Rattle.std.specs.List.{list_any}
@@ -9,37 +9,38 @@ use Rattle.wrp_flights.specs.declared.departed.Departed.{Departed}
 use Rattle.wrp_flights.specs.Departed.{is_kept, is_on, is_young}
 use Rattle.wrp_flights.specs.Frames.{at, sent_at}
 
--- the order of ages: by times, and then by numbers
+-- the order of ages: by time, and then by number
 abbrev pub age_cmp : ℤ × ℕ → ℤ × ℕ → Ordering
 age_cmp a b = ordering_then (int_cmp a.0 b.0) (nat_cmp a.1 b.1)
 
 abbrev pub has : ℤ → ℕ → List (ℤ × ℕ) → Bool
 has t k ages = list_any (is_at (age_cmp (t, k))) ages
 
--- a time came to them, with a number
+-- a time was added to them, with a number
 pub record Adds (time : ℤ) (number : ℕ) (old new : List (ℤ × ℕ)) : Type 0 where
   pub each : (t : ℤ) (k : ℕ) → has t k new ≡ cond (is_at (age_cmp (time, number)) (t, k)) true (has t k old)
   pub there : has time number new ≡ true
 
--- they are as they were, but that this time with this number may be gone
+-- they are as they were, except that this time with this number may be gone
 pub record AddsNone (time : ℤ) (number : ℕ) (old new : List (ℤ × ℕ)) : Type 0 where
   pub stays : (t : ℤ) (k : ℕ) → is_at (age_cmp (time, number)) (t, k) ≡ false → has t k new ≡ has t k old
   pub fewer : (t : ℤ) (k : ℕ) → has t k new ≡ true → has t k old ≡ true
 
--- a frame that is kept is on a fibre or young, and was put out when it is told; the ages list each young one
+-- a frame that is kept is on a fibre or young, and was put out at the time given for it; the ages list each
+-- young one
 pub record Aged (horizon : ℤ) (sent : List ℤ) (kept : List (ℕ × Departed)) (ages : List (ℤ × ℕ)) : Type 0 where
   pub told : (k : ℕ) (d : Departed) → at k kept ≡ Some d → sent_at k sent ≡ Some d.sent
   pub kept_is : (k : ℕ) (d : Departed) → at k kept ≡ Some d → is_kept horizon d ≡ true
   pub young : (k : ℕ) (d : Departed) → at k kept ≡ Some d → is_young horizon d ≡ true → has d.sent k ages ≡ true
   pub dated : (t : ℤ) (k : ℕ) → has t k ages ≡ true → sent_at k sent ≡ Some t
 
--- How frames pass out
+-- How frames are dropped
 
 -- none of the ages is before this time
 abbrev pub NoneOld : ℤ → List (ℤ × ℕ) → Type 0
 NoneOld horizon ages = (t : ℤ) (k : ℕ) → has t k ages ≡ true → horizon ≤ℤ t
 
--- one that is before this time was taken out
+-- an age that is before this time was taken out
 pub record TookOld (horizon : ℤ) (old new : List (ℤ × ℕ)) (k : ℕ) : Type 0 where
   pub time : ℤ
   pub is_old : time <ℤ horizon
@@ -52,12 +53,12 @@ abbrev pub TakesOld : ℤ → (old new : List (ℤ × ℕ)) → Option ℕ → T
 TakesOld horizon old new None = NoneOld horizon old × (new ≡ old)
 TakesOld horizon old new (Some k) = TookOld horizon old new k
 
--- a frame stays where it is on a fibre
+-- a frame stays if it is on a fibre
 abbrev pub on_only : Option Departed → Option Departed
 on_only None = None
 on_only (Some d) = if is_on d then Some d else None
 
--- an age of a frame that is kept is when that one was put out
+-- an age of a frame that is kept is the time at which that frame was put out
 abbrev pub Owns : List (ℕ × Departed) → List (ℤ × ℕ) → Type 0
 Owns kept ages = (t : ℤ) (k : ℕ) (d : Departed) → has t k ages ≡ true → at k kept ≡ Some d → d.sent ≡ t
 

@@ -1,4 +1,4 @@
--- A frame that departed, and how long it is kept: while it is on a fibre, and where it was put out at the horizon or
+-- A frame that departed, and how long it is kept: while it is on a fibre, and if it was put out at the horizon or
 -- later (this project's profile).
 use Rattle.std.specs.Prelude.{◌||◌, ◌&&◌, ℤ, Bool, true, false, if◌then◌else◌, Option, None, Some}
 use Rattle.std.specs.Int.Signed.{le_z}
@@ -18,7 +18,7 @@ is_young horizon d = le_z horizon d.sent
 abbrev pub is_kept : (horizon : ℤ) → Departed → Bool
 is_kept horizon d = if is_on d then true else is_young horizon d
 
--- a frame, where it is kept
+-- a frame, if it is kept
 abbrev pub kept_in : (horizon : ℤ) → Option Departed → Option Departed
 kept_in horizon None = None
 kept_in horizon (Some d) = if is_kept horizon d then Some d else None
@@ -27,11 +27,11 @@ kept_in horizon (Some d) = if is_kept horizon d then Some d else None
 abbrev pub receive : Reception → Departed → Departed
 receive reception d = record d { arrival = Some reception }
 
--- it is lost, where it is so and it is on a fibre
+-- it is lost, if this says so and it is on a fibre
 abbrev pub lost : Bool → Departed → Departed
 lost loses d = record d { gone = d.gone || (loses && is_on d) }
 
--- what became of a frame that was kept, where it still is
+-- what became of a frame that was kept, if it still is
 abbrev pub turn_in : (horizon : ℤ) → (Departed → Departed) → Option Departed → Option Departed
 turn_in horizon change None = None
 turn_in horizon change (Some d) = kept_in horizon (Some (change d))

@@ -1,4 +1,4 @@
--- The frames that departed, as they are seen: of all of them when they were put out, and those that are kept (this
+-- The frames that departed, as they are seen: when each of them was put out, and those that are kept (this
 -- project's profile).
 use Rattle.std.specs.Prelude.{◌≡◌, ◌+◌, ◌==◌, ◌++◌, ℕ, zero, suc, ℤ, Bool, false, if◌then◌else◌, List, [], ◌∷◌, length, Option, None, Some, slice_get}
 use Rattle.std.specs.BTreeMap.{is_at}
@@ -8,23 +8,23 @@ use Rattle.std.specs.Ordering.{nat_cmp}
 use Rattle.wrp_flights.specs.declared.departed.Departed.{Departed}
 use Rattle.wrp_flights.specs.Departed.{is_on, kept_in, turn_in}
 
--- the true time from which on a frame that was put out is young, when each was put out, by number from 1 on, and the
--- frames that are kept, by their numbers
+-- the true time from which on a frame that was put out is young; when each frame was put out, by number from 1 on;
+-- and the frames that are kept, by their numbers
 pub record FramesAt : Type 0 where
   pub horizon : ℤ
   pub sent : List ℤ
   pub kept : List (ℕ × Departed)
 
--- when the frame of a number was put out
+-- when the frame with this number was put out
 abbrev pub sent_at : ℕ → List ℤ → Option ℤ
 sent_at zero sent = None
 sent_at (suc i) sent = slice_get sent i
 
--- the frame of a number that is kept
+-- the frame with this number, if it is kept
 abbrev pub at : ℕ → List (ℕ × Departed) → Option Departed
 at k kept = lookup (is_at (nat_cmp k)) kept
 
--- whether the frame of a number is on a fibre
+-- whether the frame with this number is on a fibre
 abbrev pub on_at : List (ℕ × Departed) → ℕ → Bool
 on_at kept k = option_map_or is_on (at k kept) false
 
@@ -33,13 +33,13 @@ abbrev pub numbers_from : (count first : ℕ) → List ℕ
 numbers_from zero first = []
 numbers_from (suc count) first = first ∷ numbers_from count (first + 1)
 
--- each frame changed by its number, and those are forgotten that are no more kept then
+-- each frame is changed by its number, and the frames that are then no longer kept are forgotten
 pub record Turned (change : ℕ → Departed → Departed) (old new : FramesAt) : Type 0 where
   pub horizon : new.horizon ≡ old.horizon
   pub sent : new.sent ≡ old.sent
   pub kept : (k : ℕ) → at k new.kept ≡ turn_in old.horizon (change k) (at k old.kept)
 
--- the horizon came to be this one, and those are forgotten that are no more kept then
+-- the horizon is now this one, and the frames that are then no longer kept are forgotten
 pub record Passes (horizon : ℤ) (old new : FramesAt) : Type 0 where
   pub horizon_is : new.horizon ≡ horizon
   pub sent : new.sent ≡ old.sent

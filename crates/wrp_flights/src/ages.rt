@@ -1,4 +1,4 @@
-//! The ages of frames, and the frames that pass out of the window.
+//! The ages of frames, and the frames that leave the window.
 ghost use Rattle.std.specs.Prelude.{◌≡◌, ℕ, ℤ, true, cond, Some};
 ghost use Rattle.std.specs.BTreeMap.{is_at};
 ghost use Rattle.std.specs.Ordering.{nat_cmp};
@@ -11,7 +11,7 @@ use crate::departed::Departed;
 use std::collections::{BTreeMap, BTreeSet};
 use wrp_base::Tau;
 
-// The oldest is taken out, where it was put out before this time: its number.
+// Takes out the oldest, if it was put out before this time, and answers its number.
 fn take_old(ages: &mut BTreeSet<(Tau, u32)>, horizon: Tau) -> Option<u32>
     ensures { TakesOld horizon ages.old.keys ages.new.keys result }
 {
@@ -28,7 +28,7 @@ fn take_old(ages: &mut BTreeSet<(Tau, u32)>, horizon: Tau) -> Option<u32>
     }
 }
 
-// A frame is forgotten, where it is on no fibre.
+// A frame is forgotten, if it is on no fibre.
 fn forget_landed(kept: &mut BTreeMap<u32, Departed>, number: u32)
     ensures { (k : ℕ) → at k kept.new.entries
         ≡ cond (is_at (nat_cmp number) k) (on_only (at k kept.old.entries)) (at k kept.old.entries) }

@@ -28,7 +28,7 @@ pub struct Departed {
     pub due: Tau,
     /// Its arrival.
     pub arrival: Option<Reception>,
-    /// Whether it never arrives any more.
+    /// Whether it can no longer arrive.
     pub gone: bool,
 }
 

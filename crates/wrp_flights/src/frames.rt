@@ -21,17 +21,18 @@ use wrp_network::LinkCfg;
 /// The frames that departed, numbered from 1 in the order of their departures.
 #[derive(Debug, Drop)]
 pub struct Frames {
-    // From which true time on a frame that was put out is young.
+    // The true time from which on a frame that was put out is young.
     horizon: Tau,
     // When each was put out.
     sent: Vec<Tau>,
-    // Those that are on a fibre or young, by their numbers.
+    // The frames that are on a fibre or young, by their numbers.
     kept: BTreeMap<u32, Departed>,
     // When the young ones were put out, with their numbers.
     ages: BTreeSet<(Tau, u32)>,
-    // The numbers of those on a fibre.
+    // The numbers of the frames on a fibre.
     on_fibre: Vec<u32>,
-    // When they are due, with their numbers; one that is on no fibre any more stays until it is the first.
+    // When these frames are due, with their numbers; a frame that is no longer on a fibre stays until it
+    // is the first.
     dues: BTreeSet<(Tau, u32)>,
 }
 
@@ -62,7 +63,7 @@ impl Frames {
         }
     }
 
-    /// How many departed, which is the last number that was given.
+    /// How many departed. This is the last number that was given.
     pub fn count(&self) -> u32
         requires { length self.now.sent < 2 ^ 32 }
         ensures { result ≡ length self.now.sent }
@@ -70,7 +71,7 @@ impl Frames {
         self.sent.len() as u32
     }
 
-    /// When the frame of a number was put out. `None` exactly where the number was not given.
+    /// When the frame with this number was put out. `None` if and only if the number was not given.
     pub fn sent_at(&self, number: u32) -> Option<Tau>
         ensures { result ≡ sent_at number self.now.sent }
     {
@@ -81,8 +82,8 @@ impl Frames {
         }
     }
 
-    /// The frame of a number. `None` exactly where the number was not given, or the frame is on no fibre
-    /// and was put out before the horizon.
+    /// The frame with this number. `None` if and only if the number was not given, or the frame is on no
+    /// fibre and was put out before the horizon.
     pub fn find(&self, number: u32) -> Option<&Departed>
         ensures { option_map (λ d. d.now) result ≡ at number self.now.kept }
     {
@@ -97,7 +98,7 @@ impl Frames {
     }
 
     /// The frame on a fibre that is due first, with that time; the least number among equals. None
-    /// exactly where no frame is on a fibre.
+    /// if and only if no frame is on a fibre.
     pub fn next_due(&self) -> Option<(u32, Tau)>
         ensures { IsFirst self.now.kept result }
     {
@@ -168,7 +169,7 @@ impl Frames {
     }
 
     /// A frame that departs gets the next number, if there is one. All memory is taken before
-    /// anything changes: `AllocError` where it could not be had, and then nothing does.
+    /// anything changes: `AllocError` if it could not be had, and then nothing changes.
     pub fn push(&mut self, frame: Option<Departed>) -> Result<(), AllocError>
         requires on { IfSome frame (λ d. is_on d ≡ true) }
         requires few { length self.old.sent + 1 < 2 ^ 32 }
@@ -198,7 +199,7 @@ impl Frames {
     }
 }
 
-// A frame arrives, of the parts.
+// A frame arrives; this works on the parts.
 fn arrive(
     kept: &mut BTreeMap<u32, Departed>,
     numbers: &mut Vec<u32>,
@@ -222,7 +223,7 @@ fn arrive(
     );
 }
 
-// A frame departs, of the parts.
+// A frame departs; this works on the parts.
 fn put(
     sent: &mut Vec<Tau>,
     kept: &mut BTreeMap<u32, Departed>,

@@ -1,5 +1,6 @@
-//! Frames that departed, kept as a window: a frame's octets and stamp stay while it is on a fibre or was put
-//! out a life ago at most; of an older one the time stays at which it was put out (this project's profile).
+//! Frames that departed, kept as a window: a frame's octets and stamp are kept while it is on a fibre or if
+//! it was put out at most a life ago; for an older frame only the time at which it was put out is kept (this
+//! project's profile).
 #![tactic(auto)]
 
 mod ages;

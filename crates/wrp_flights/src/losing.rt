@@ -17,11 +17,11 @@ use wrp_network::LinkCfg;
 /// Which frames on fibres are lost.
 #[derive(Clone, Copy)]
 pub enum Loss {
-    /// Those on the fibre of this link.
+    /// The frames on the fibre of this link.
     Link(u8),
-    /// Those on the fibres of this node's links.
+    /// The frames on the fibres of this node's links.
     Node(u8),
-    /// Those that departed before this number, over this link and from this end.
+    /// The frames that departed before the one with this number, over this link and from this end.
     Older(u32, u8, Role),
 }
 
@@ -31,14 +31,14 @@ fn is_role(a: Role, b: Role) -> bool
     a == b
 }
 
-// An end of a link is this node's.
+// Whether an end of a link is this node's.
 fn is_end_of(link: &LinkCfg, node: u8) -> bool
     ensures { result ≡ spec.touches node link.now }
 {
     link.upper == node || link.lower == node
 }
 
-// The same of the link of a number.
+// The same for the link with a number.
 fn touches(links: &[LinkCfg], k: u8, node: u8) -> bool
     ensures { result ≡ option_map_or (spec.touches node) (slice_get links.now k) false }
 {
@@ -48,7 +48,7 @@ fn touches(links: &[LinkCfg], k: u8, node: u8) -> bool
     }
 }
 
-// Whether the frame of a number is one of those.
+// Whether the frame with a number is one of those.
 fn meets(loss: Loss, links: &[LinkCfg], number: u32, frame: &Departed) -> bool
     ensures { result ≡ spec.meets links.now loss number frame.now }
 {
@@ -61,7 +61,7 @@ fn meets(loss: Loss, links: &[LinkCfg], number: u32, frame: &Departed) -> bool
     }
 }
 
-// A frame is lost, where it is one of those and is on a fibre.
+// A frame is lost, if it is one of those and is on a fibre.
 fn lose_frame(frame: &mut Departed, number: u32, loss: Loss, links: &[LinkCfg])
     ensures { frame.new ≡ spec.lost_by links.now loss number frame.old }
 {
@@ -69,7 +69,7 @@ fn lose_frame(frame: &mut Departed, number: u32, loss: Loss, links: &[LinkCfg])
     frame.gone = frame.gone || (loses && frame.is_on());
 }
 
-// The same of the frame of a number.
+// The same for the frame with a number.
 fn lose_at(kept: &mut BTreeMap<u32, Departed>, number: u32, loss: Loss, links: &[LinkCfg])
     ensures { (k : ℕ) → at k kept.new.entries
         ≡ cond (is_at (nat_cmp number) k) (option_map (spec.lost_by links.now loss number) (at k kept.old.entries))
@@ -80,7 +80,7 @@ fn lose_at(kept: &mut BTreeMap<u32, Departed>, number: u32, loss: Loss, links: &
     }
 }
 
-// It is forgotten, where it is then old.
+// The same; then it is forgotten, if it is old.
 fn lose_one(
     kept: &mut BTreeMap<u32, Departed>,
     number: u32,
@@ -96,8 +96,8 @@ fn lose_one(
     forget_old(kept, number, horizon);
 }
 
-// All of them are lost, and those forgotten that are then old. The numbers list each frame that is on a
-// fibre, and each that is old.
+// All of them are lost, and those that are then old are forgotten. The numbers list each frame that is
+// on a fibre, and each that is old.
 fn lose_all(
     kept: &mut BTreeMap<u32, Departed>,
     numbers: &[u32],
@@ -113,7 +113,7 @@ fn lose_all(
     }
 }
 
-/// Whether the frame of a number is on a fibre.
+/// Whether the frame with a number is on a fibre.
 pub fn is_on_at(kept: &BTreeMap<u32, Departed>, number: u32) -> bool
     ensures { result ≡ on_at kept.now.entries number }
 {
@@ -132,7 +132,8 @@ fn leave_out(kept: &BTreeMap<u32, Departed>, numbers: &mut Vec<u32>)
     numbers.retain(|number| is_on_at(kept, *number));
 }
 
-/// These frames are lost, and those forgotten that are then old; the numbers are those on a fibre.
+/// These frames are lost, and those that are then old are forgotten; the numbers are those of the
+/// frames on a fibre.
 pub fn lose(
     kept: &mut BTreeMap<u32, Departed>,
     numbers: &mut Vec<u32>,

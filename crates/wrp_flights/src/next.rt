@@ -10,7 +10,7 @@ use crate::losing::is_on_at;
 use std::collections::{BTreeMap, BTreeSet};
 use wrp_base::Tau;
 
-// Whether the first one is of a frame on a fibre; also where there is none.
+// Whether the first one belongs to a frame on a fibre; also true if there is none.
 fn first_is_on(kept: &BTreeMap<u32, Departed>, dues: &BTreeSet<(Tau, u32)>) -> bool
     ensures first { FirstIs result kept.now.entries dues.now.keys }
     ensures some { result ≡ false → 0 < length dues.now.keys }
@@ -21,7 +21,7 @@ fn first_is_on(kept: &BTreeMap<u32, Departed>, dues: &BTreeSet<(Tau, u32)>) -> b
     }
 }
 
-// The first one is taken out, which is of a frame on no fibre: its number.
+// The first one, which belongs to a frame on no fibre, is taken out; answers its number.
 fn take_first(kept: &BTreeMap<u32, Departed>, dues: &mut BTreeSet<(Tau, u32)>) -> Option<u32>
     requires first { FirstIs false kept.now.entries dues.old.keys }
     requires some { 0 < length dues.old.keys }
@@ -46,8 +46,8 @@ pub fn settle(kept: &BTreeMap<u32, Departed>, dues: &mut BTreeSet<(Tau, u32)>)
     }
 }
 
-/// The frame on a fibre that is due first, with that time; the least number among equals. None
-/// exactly where no frame is on a fibre.
+/// The frame on a fibre that is due first, with that time; the least number among equals. None if
+/// and only if no frame is on a fibre.
 pub fn next_due(dues: &BTreeSet<(Tau, u32)>) -> Option<(u32, Tau)>
     ensures { (sent : List ℤ) (kept : List (ℕ × DepartedAt)) → Orders sent kept dues.now.keys → IsFirst kept result }
 {

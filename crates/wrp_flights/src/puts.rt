@@ -12,7 +12,7 @@ use std::collections::{BTreeMap, BTreeSet};
 use wrp_base::Tau;
 
 /// A frame that was put out at this time is kept under a number, and listed by its age.
-/// `AllocError` where memory for one of both could not be had: then the frames are as before, and
+/// `AllocError` if memory for one of the two could not be had: then the frames are as before, and
 /// the list of ages has no more than before.
 pub fn keep(
     kept: &mut BTreeMap<u32, Departed>,
@@ -37,9 +37,9 @@ pub fn keep(
     }
 }
 
-/// The same of a frame, which is listed by the time at which it is due, too. `AllocError` where
-/// memory for one of the three could not be had: then the frames are as before, and neither list
-/// has more than before.
+/// The same for a frame that is also listed by the time at which it is due. `AllocError` if memory
+/// for one of the three could not be had: then the frames are as before, and neither list has more
+/// than before.
 pub fn keep_due(
     kept: &mut BTreeMap<u32, Departed>,
     ages: &mut BTreeSet<(Tau, u32)>,
@@ -78,7 +78,7 @@ pub fn receive(kept: &mut BTreeMap<u32, Departed>, number: u32, reception: Recep
     }
 }
 
-/// A frame is forgotten, where it is on no fibre and was put out before this time.
+/// A frame is forgotten, if it is on no fibre and was put out before this time.
 pub fn forget_old(kept: &mut BTreeMap<u32, Departed>, number: u32, horizon: Tau)
     ensures { (k : ℕ) → at k kept.new.entries
         ≡ cond (is_at (nat_cmp number) k) (kept_in horizon (at k kept.old.entries)) (at k kept.old.entries) }

@@ -1,4 +1,5 @@
--- The words of a line that is written of an output: each is a word, so the line can be split at its spaces.
+-- The words of a line that is written for an output: each is a word, so the line can be split at its
+-- spaces.
 use Rattle.std.proofs.Common.{◌≡◌, ◌⊎◌, inl, inr, refl, ℕ, zero, suc, ℤ, pos, ◌+◌, ◌≤◌, ◌/◌, ◌%◌, ◌==◌, ◌&&◌, ◌||◌, Bool, true, false, List, [], ◌∷◌, ◌++◌, get_or, length, Option, None, Some, arith}
 use Rattle.std.specs.Prelude.{nat_le, slice_get}
 use Rattle.std.specs.List.{list_all}
@@ -72,7 +73,7 @@ node_word (Some node) h = name_word node.name.bytes (h node refl)
 pub at_word : (cfg : NetCfg) → HasNames cfg → (n : ℕ) → IsWord (name_at cfg n)
 at_word cfg names n = node_word (slice_get cfg.nodes.items n) (λ node e. names.node n node e)
 
--- What is written of an output
+-- What is written for an output
 
 pub truth_are : (truth : Option ℤ) → AreWords (truth_words truth)
 truth_are None = tt

@@ -1,4 +1,4 @@
--- Each reason is the one of its number.
+-- Each reason is the reason with its number.
 use Rattle.std.proofs.Common.{◌≡◌, refl}
 use Rattle.wrp_data.specs.declared.reason.Reason.{Reason}
 use Rattle.wrp_data.specs.declared.reason.Reason.TheVariants.{Short, Version, Kind, Length, Time, Tlv, BadWr, OneStep, Domain, Stranger, NotForUs, Quiet, Unmatched, Range, Sample}

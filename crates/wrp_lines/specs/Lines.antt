@@ -13,7 +13,7 @@ use Rattle.wrp_node.specs.declared.interface.Report.TheVariants.{Link, Servo, Tr
 use Rattle.wrp_records.specs.Words.{line_of}
 use Rattle.wrp_lines.specs.Words.{link_word, reason_word, servo_word}
 
--- What a line says of an output, behind the node's name and tick
+-- What a line says of an output, after the node's name and tick
 
 -- a frame that a port sends, in hex
 abbrev pub send_words : ℕ → List ℕ → List (List ℕ)
@@ -27,7 +27,7 @@ step_words cycles = codes "step" ∷ signed_decimal cycles ∷ []
 abbrev pub dac_words : ℕ → List (List ℕ)
 dac_words value = codes "dac" ∷ decimal value ∷ []
 
--- the true offset, where it is known
+-- the true offset, if it is known
 abbrev pub truth_words : Option ℤ → List (List ℕ)
 truth_words None = []
 truth_words (Some off) = codes "true" ∷ signed_decimal off ∷ []
@@ -58,7 +58,7 @@ output_words (output.Step cycles) bound truth = step_words cycles
 output_words (output.Dac value) bound truth = dac_words value
 output_words (output.Report report) bound truth = report_words report bound truth
 
--- What a line says of a node, behind its name
+-- What a line says of a node, after its name
 
 -- a counter at a port, and how its reason is written
 abbrev pub count_words : ℕ → List ℕ → ℕ → List (List ℕ)
@@ -77,7 +77,7 @@ abbrev pub output_line_of : List ℕ → ℕ → Output → ℤ → Option ℤ �
 output_line_of name tick o bound truth =
     line_of (name ∷ decimal tick ∷ output_words o bound truth)
 
--- the line of an output of the node of this number: the bound is that in TRACK
+-- the line of an output of the node with this number: the bound is the node's bound in TRACK
 abbrev pub output_line : NetCfg → ℕ → ℕ → Output → Option ℤ → List ℕ
 output_line cfg n tick o truth = output_line_of (name_at cfg n) tick o (pos (path_of cfg n)) truth
 
@@ -86,7 +86,7 @@ abbrev pub count_line_of : List ℕ → ℕ → ℕ → ℕ → List ℕ
 count_line_of name port reason value =
     line_of (name ∷ count_words port (reason_word reason) value)
 
--- the line of a counter at a port of the node of this number
+-- the line of a counter at a port of the node with this number
 abbrev pub count_line : NetCfg → ℕ → ℕ → ℕ → ℕ → List ℕ
 count_line cfg n port reason value = count_line_of (name_at cfg n) port reason value
 
@@ -95,7 +95,7 @@ abbrev pub sum_line_of : List ℕ → ℕ → ℕ → ℕ → ℤ → ServoState
 sum_line_of name ticks tracks worst bound state =
     line_of (name ∷ sum_words ticks tracks worst bound (servo_word state))
 
--- the same for the node of this number: the bound is that in TRACK
+-- the same for the node with this number: the bound is the node's bound in TRACK
 abbrev pub sum_line : NetCfg → ℕ → ℕ → ℕ → ℕ → ServoState → List ℕ
 sum_line cfg n ticks tracks worst state =
     sum_line_of (name_at cfg n) ticks tracks worst (pos (path_of cfg n)) state

@@ -34,7 +34,7 @@ servo_word WaitStable = codes "wait-stable"
 servo_word Track = codes "track"
 servo_word Holdover = codes "holdover"
 
--- how the reason of this number is written; no octets where there is none
+-- how the reason with this number is written; no octets if there is none
 unfoldable pub reason_word : ℕ → List ℕ
 reason_word number =
     option_map_or name_of (find (λ reason. number_of reason == number) reasons) []

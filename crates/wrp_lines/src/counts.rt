@@ -12,7 +12,7 @@ use wrp_config::Network;
 use wrp_records::append_words;
 
 /// The line of a counter at a port of the node, with its LF. `reason` is the number of the reason,
-/// 1 to 15. `AllocError` where there is no memory for it.
+/// 1 to 15. `AllocError` if memory runs out.
 pub fn count_line(
     alloc: Global,
     net: &Network,
@@ -34,8 +34,7 @@ pub fn count_line(
 }
 
 /// Appends to `text` the line of a counter of the node with this name. `reason` is the number of
-/// the reason, 1 to 15. `AllocError` where there is no memory for the line: `text` keeps its
-/// octets.
+/// the reason, 1 to 15. `AllocError` if memory runs out: `text` keeps its octets.
 pub fn append_count_line(
     name: &str,
     port: u16,

@@ -19,7 +19,7 @@ use wrp_node::{Output, Report};
 use wrp_records::append_words;
 
 /// The line of an output that the node gave at this tick, with its LF. `truth` is the true offset
-/// in tau, where it is known. `AllocError` where there is no memory for it.
+/// in tau, if it is known. `AllocError` if memory runs out.
 pub fn output_line(
     alloc: Global,
     net: &Network,
@@ -38,8 +38,8 @@ pub fn output_line(
     Ok(line)
 }
 
-/// Appends to `text` the line that `output_line` gives. `AllocError` where there is no memory for
-/// it: `text` keeps its octets.
+/// Appends to `text` the line that `output_line` gives. `AllocError` if memory runs out: `text`
+/// keeps its octets.
 pub fn append_output_line(
     alloc: Global,
     net: &Network,
@@ -73,8 +73,8 @@ fn bound_of(cfg: &NetCfg, node: u8) -> Tau
 }
 
 /// Appends to `text` the line of an output of the node with this name, whose bound in TRACK is
-/// `bound`, in tau: so a run finds out a node's bound once, and not at each line. `AllocError`
-/// where there is no memory for the line: `text` keeps its octets.
+/// `bound`, in tau. So a run works out a node's bound once, and not for each line. `AllocError` if
+/// memory runs out: `text` keeps its octets.
 pub fn append_line(
     alloc: Global,
     name: &str,
@@ -169,7 +169,7 @@ fn append_report(
     }
 }
 
-// Appends the line of a port whose number and word are written so.
+// Appends the line of a port whose number and word are written in this way.
 fn append_link(
     name: &str,
     tick: &str,
@@ -184,7 +184,7 @@ fn append_link(
     append_words(text, &[name, tick, "link", port, word])
 }
 
-// Appends the line of a servo whose state is written so.
+// Appends the line of a servo whose state is written in this way.
 fn append_servo(name: &str, tick: &str, state: &str, text: &mut Vec<u8>) -> Result<(), AllocError>
     ensures ok { OnOk result (text.new.items ≡ text.old.items
         ++ line_of (name.now ∷ tick.now ∷ servo_words state.now)) }

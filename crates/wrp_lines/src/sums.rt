@@ -24,8 +24,8 @@ pub struct Sum {
     pub state: ServoState,
 }
 
-/// Appends to `text` the line that sums up the run of the node with this name. `AllocError` where
-/// there is no memory for the line: `text` keeps its octets.
+/// Appends to `text` the line that sums up the run of the node with this name. `AllocError` if
+/// memory runs out: `text` keeps its octets.
 pub fn append_sum_line(name: &str, sum: Sum, text: &mut Vec<u8>) -> Result<(), AllocError>
     ensures ok { OnOk result (text.new.items ≡ text.old.items
         ++ sum_line_of name.now sum.ticks sum.tracks sum.worst sum.bound sum.state) }

@@ -7,7 +7,7 @@ use wrp_base::{LinkState, LinkWord, ServoState};
 use wrp_data::Reason;
 use wrp_network::NetCfg;
 
-/// The name of the node of this number.
+/// The name of the node with this number.
 pub fn name_of_node(cfg: &NetCfg, node: u8) -> &str
     requires { node < node_count cfg.now }
     ensures { result.now ≡ name_at cfg.now node }
@@ -15,7 +15,7 @@ pub fn name_of_node(cfg: &NetCfg, node: u8) -> &str
     cfg.nodes[usize::from(node)].name.as_str()
 }
 
-/// How a link word is written. No port has the word of IDLE; it would be that of plain PTP.
+/// How a link word is written. No port has the word of IDLE; it would be the word of plain PTP.
 pub fn text_of_link(word: LinkWord) -> &'static str
     ensures { result.now ≡ link_word word }
 {
@@ -50,7 +50,7 @@ pub fn text_of_servo(state: ServoState) -> &'static str
     }
 }
 
-/// The name of the reason of this number, 1 to 15.
+/// The name of the reason with this number, 1 to 15.
 #[tactic(auto, using(crate::proofs::Reasons::word_of_number))]
 pub fn name_of_reason(number: u8) -> &'static str
     requires least { 1 ≤ number }

@@ -1,5 +1,5 @@
--- Events that keep all premises: a frame that has arrived and is young, and octets that say no message of the peer, over a link that
--- has its carrier; and what an arrival and these events leave of it.
+-- Events that keep all premises: a frame that has arrived and is young, and octets that say no message of the peer,
+-- over a link that has its carrier; and what remains of this after an arrival and these events.
 use Rattle.std.proofs.Common.{◌≡◌, ◌∙◌, refl, ap, sym, subst, ℕ, ◌<◌, ℤ, pos, ◌-ℤ◌, ◌≤ℤ◌, not, Bool, true, false, List, [], ◌∷◌, Option, None, Some, Result, Ok, Err, arith}
 use Rattle.std.proofs.lemmas.Bool.{not-false}
 use Rattle.std.proofs.lemmas.Int.{ints}

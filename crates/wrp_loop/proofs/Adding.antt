@@ -1,4 +1,4 @@
--- What a link told since, call by call.
+-- What a link has shown since then, call by call.
 use Rattle.std.proofs.Common.{◌≡◌, ◌∙◌, refl, ap, inr, ℕ, zero, suc, ◌<◌, List, [], ◌∷◌, ◌++◌, length, Bool, true, false, Option, None, Some, Result, Ok, Err, OnErr, append_assoc, arith}
 use Rattle.std.specs.List.{AllByRecursion}
 use Rattle.std.specs.Option.{option_map}
@@ -28,7 +28,7 @@ stopped to zero got h = absurd (omega (arith, h))
 stopped to (suc room) [] h = refl
 stopped to (suc room) (frame ∷ got) h = ap (λ calls. Receive to (Some frame) ∷ calls) (stopped to room got (omega (arith, h)))
 
--- receptions that stopped at the last that may be
+-- receptions that stopped at the last one that is allowed
 pub filled : (to room : ℕ) (got : List (ArrayVec ℕ)) → length got ≡ room → receptions to room got ≡ taken_calls to got
 filled to zero [] h = refl
 filled to zero (frame ∷ got) h = absurd (omega (arith, h))
@@ -39,14 +39,14 @@ pub taken_more : (to : ℕ) (got : List (ArrayVec ℕ)) (frame : ArrayVec ℕ) �
 taken_more to [] frame = refl
 taken_more to (first ∷ got) frame = ap (λ calls. Receive to (Some first) ∷ calls) (taken_more to got frame)
 
--- a reception that gave nothing, as a link tells it
+-- a reception that gave nothing, as a link shows it
 pub told_none : (to : ℕ) (answer : Bool) (octets : List ℕ) (before now : Option (List LinkCall)) → answer ≡ false →
     now ≡ option_map (λ told. told ++ Receive to (answered answer octets) ∷ []) before →
     now ≡ option_map (λ told. told ++ Receive to None ∷ []) before
 told_none to true octets before now h e = absurd (let f : true ≡ false = h in cc)
 told_none to false octets before now h e = e
 
--- one that gave a datagram
+-- a reception that gave a datagram
 pub told_some : (to : ℕ) (answer : Bool) (frame : ArrayVec ℕ) (before now : Option (List LinkCall)) → answer ≡ true →
     now ≡ option_map (λ told. told ++ Receive to (answered answer frame.items) ∷ []) before →
     now ≡ option_map (λ told. told ++ Receive to (Some frame) ∷ []) before

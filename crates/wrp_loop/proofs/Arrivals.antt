@@ -142,7 +142,7 @@ round_came post x old new course next l e number raw f route got goes before tol
   grows = on.grows;
 }
 
--- where there was no memory
+-- if memory ran out
 pub calls_made : {F : Type 0} (post : F → ℤ → ℤ → Type 0) (x : Plan) (old : LoopedNetwork F) (course : LoopCourse) (l : LoopAt) (e : Event) (number : ℕ) (raw : Raw) (f : FrameAt) (route : Route) (got : List (ArrayVec ℕ)) (before told : Option (List LinkCall)) →
     e ≡ Arrive number raw → course.events + 1 < event_limit → length got ≤ 16 → HasNext post x old course l e → Flies (world_at x l) x.setting number f → Exchanged x.setting f route got before told →
     (calls : List LinkCall) × Grew before told calls × ArrivalCalls x l calls × AllByRecursion IsFrameCall calls
@@ -179,7 +179,7 @@ call_failed post x old course l e number raw f before told same room n flies cut
       frames = cut.frames;
     }
 
--- The calls of an arrival, of what the code has of its way
+-- The calls of an arrival, by what the code has of its way
 
 pub exchanged_so : (s : Setting) (f : FrameAt) (route : Route) (octets : List ℕ) (got : List (ArrayVec ℕ)) (before told : Option (List LinkCall)) → IsRouteOf s f route → octets ≡ octets_of f.sending.message → Grew before told (arrival_calls route.from route.to octets got) →
     AllByRecursion IsFrame got → Exchanged s f route got before told
@@ -199,7 +199,7 @@ cut_off_so s f route octets before told routes same it = record {
       (subst (λ (k : ℕ). AreCutCalls (end_number f.link f.by) k octets it.0) routes.to_is (subst (λ (k : ℕ). AreCutCalls k route.to octets it.0) routes.from_is it.2));
 }
 
--- The next event arrives, by what was exchanged
+-- The next event is an arrival, by what was exchanged
 
 pub fits_same : {F : Type 0} (network : LoopedNetwork F) (course next : LoopCourse) → FitsCourse network course → next.sim ≡ course.sim → next.events ≡ course.events → FitsCourse network next
 fits_same network course next h sim events = record {

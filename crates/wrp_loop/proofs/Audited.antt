@@ -44,7 +44,7 @@ all_passed : (lines : List (List ℕ)) → NoneIsMarked lines → marked_in line
 all_passed [] h = refl
 all_passed (line ∷ lines) h = passed line lines h.0 ∙ all_passed lines h.1
 
--- Of two lists in a row
+-- Two lists in a row
 
 others_join : (a b : List (List ℕ)) → others_in (a ++ b) ≡ others_in a ++ others_in b
 others_join a b = filter-append (λ line. not (is_marked line)) a b
@@ -56,7 +56,7 @@ both_plain : (a b : List (List ℕ)) → NoneIsMarked a → NoneIsMarked b → N
 both_plain [] b h k = k
 both_plain (line ∷ a) b h k = (h.0, both_plain a b h.1 k)
 
--- The lines of a node begin with its name, and that with a letter
+-- The lines of a node begin with its name, and the name begins with a letter
 
 letter_no_mark : (c : ℕ) → is_letter c ≡ true → (c == 61) ≡ false
 letter_no_mark c h =
@@ -106,7 +106,7 @@ forged_plain : (count : ℕ) (none : Bool) → NoneIsMarked (if none then [] els
 forged_plain count true = tt
 forged_plain count false = (refl, tt)
 
--- Of all events
+-- All events
 
 others_of : (s : Setting) → IsNetwork s → (events : List Happened) → others_in (loop_lines s events) ≡ audit_lines s events
 others_of s net [] = refl

@@ -1,4 +1,4 @@
--- Events that come of datagrams can come.
+-- Events that follow from datagrams can come.
 use Rattle.std.proofs.Common.{ℕ, ℤ, arith}
 use Rattle.arrayvec.specs.ArrayVec.{ArrayVec}
 use Rattle.wrp_course.specs.declared.event.Event.TheVariants.{Deliver, Noise}

@@ -1,4 +1,4 @@
--- The frame that arrives next is carried: its datagrams go over the link, and are handled behind its arrival.
+-- The frame that arrives next is carried: its datagrams go over the link, and are handled after its arrival.
 use Rattle.std.proofs.Common.{◌≡◌, ◌≤◌, ◌<◌, ◌+◌, subst, ℕ, ℤ, Bool, List, [], ◌∷◌, ◌++◌, length, inr, Option, Result, Ok, Err, IfOk}
 use Rattle.arrayvec.specs.ArrayVec.{ArrayVec}
 use Rattle.wrp_io.specs.declared.link.LinkCall.{LinkCall}
@@ -20,7 +20,7 @@ use Rattle.wrp_loop.proofs.Arrivals.{carried_on, carried_round, carried_start, f
 pub routed_next : {F : Type 0} (post : F → ℤ → ℤ → Type 0) (network : LoopedNetwork F) (course : LoopCourse) (e : Event) (number : ℕ) (route : Route) → RoutesNext post network course e number route → IsNext post network course e
 routed_next post network course e number route h = (h.0, h.1, h.3.next)
 
--- The datagrams are handled where it has arrived
+-- The datagrams are handled when the frame has arrived
 
 pub starts_carried : {F : Type 0} (post : F → ℤ → ℤ → Type 0) → EventsAreAccepted → (old new : LoopedNetwork F) (course next : LoopCourse) (e : Event) (number : ℕ) (route : Route) (before text : List ℕ) → IsArrivalOf number e → RoutesNext post old course e number route →
     Happens post e old.world new.world before text → next.events ≡ course.events + 1 → next.forged ≡ course.forged → next.sim ≡ course.sim →

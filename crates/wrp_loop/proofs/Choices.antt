@@ -1,4 +1,4 @@
--- There is one choice among frames.
+-- There is only one choice among frames.
 use Rattle.std.proofs.Common.{◌≡◌, ◌∙◌, refl, ap, sym, ℕ, inl, inr, Bool, Option, None, Some, arith}
 use Rattle.std.proofs.lemmas.Bool.{cases_lt}
 use Rattle.wrp_base.proofs.Booleans.{not_both}
@@ -34,7 +34,7 @@ one_chosen Such handed (Some a) (Some b) h k = ap Some (same_choice Such handed 
 pub one_frame : OneFrame
 one_frame s events way octets a b h k = one_chosen (IsSuch s (world_after s events) way octets) (handed_in events) a b h k
 
--- what was handed over counts only of those that are such
+-- which frames were handed over matters only for those that are such
 pub choice_same : (Such : ℕ → Type 0) (h k : ℕ → Bool) (found : Option ℕ) → ((i : ℕ) → Such i → h i ≡ k i) → Chooses Such h found → Chooses Such k found
 choice_same Such h k None same c = c
 choice_same Such h k (Some i) same c = record {
@@ -45,7 +45,7 @@ choice_same Such h k (Some i) same c = record {
   ];
 }
 
--- and those that are such may be told by other words
+-- and the frames that are such may be described in other words
 pub choice_of : (Such Others : ℕ → Type 0) (handed : ℕ → Bool) (found : Option ℕ) → ((i : ℕ) → Such i → Others i) → ((i : ℕ) → Others i → Such i) → Chooses Such handed found → Chooses Others handed found
 choice_of Such Others handed None to from c = λ j o. c j (from j o)
 choice_of Such Others handed (Some i) to from c = record {

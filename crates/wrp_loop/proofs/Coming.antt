@@ -90,7 +90,7 @@ pub is_next : {F : Type 0} (post : F → ℤ → ℤ → Type 0) (network : Loop
 is_next post network course next e follows scene events forged index h =
     (h.0, h.1, next_has post h.0 network course next h.1 e follows scene events forged index h.2)
 
--- none comes any more
+-- no event comes any more
 pub none_comes : {F : Type 0} (post : F → ℤ → ℤ → Type 0) (x : Plan) (network : LoopedNetwork F) (course next : LoopCourse) (l : LoopAt) (told : Option (List LinkCall)) (text : List ℕ) → FollowsRules post network.world course.sim next.sim None →
     next.events ≡ course.events → next.forged ≡ course.forged → StandsAt post x network course l →
     RoundStays post x network next l told told text text × Gives x.scene x.setting (world_at x l) l.at None
@@ -182,7 +182,7 @@ too_many post x network course l e told text full counted n = (
   },
 )
 
--- one that is no arrival, and hands nothing over
+-- an event that is not an arrival and hands nothing over
 pub plain_round : {F : Type 0} (post : F → ℤ → ℤ → Type 0) (x : Plan) (network : LoopedNetwork F) (course : LoopCourse) (l : LoopAt) (told : Option (List LinkCall)) (old new : List ℕ) → CamePlain post x network course l old new →
     RoundCame post x network course l true told told old new
 plain_round post x network course l told old new came = record {
@@ -199,7 +199,7 @@ plain_round post x network course l told old new came = record {
 pub plain_lacks : (x : Plan) (l : LoopAt) (told : Option (List LinkCall)) → RoundLacks x l told told
 plain_lacks x l told = record { calls = []; adds = adds_none told; frames = tt; which = inl refl }
 
--- one that hands a frame over is left out
+-- an event that hands a frame over is left out
 pub left_out : {F : Type 0} (post : F → ℤ → ℤ → Type 0) (x : Plan) (network : LoopedNetwork F) (course : LoopCourse) (l : LoopAt) (e : Event) (i : ℕ) (told : Option (List LinkCall)) (text : List ℕ) → e ≡ Deliver i → HasNext post x network course l e →
     RoundCame post x network course l true told told text text
 left_out post x network course l e i told text same n =
@@ -227,7 +227,7 @@ left_out post x network course l e i told text same n =
       grows = grows_none x l (without_frame i n.new l) text refl;
     }
 
--- a fault of an arrival is one of its round
+-- a fault of an arrival is a fault of its round
 pub fault_same : {F : Type 0} (post : F → ℤ → ℤ → Type 0) (x : Plan) (network : LoopedNetwork F) (course : LoopCourse) (l : LoopAt) (before told : Option (List LinkCall)) (old new : List ℕ) (fault : LoopFault) → Arrivals post x network course l before told old new (Err fault) →
     Rounds post x network course l before told old new (Err fault)
 fault_same post x network course l before told old new faults.Failed h = h

@@ -11,7 +11,7 @@ use Rattle.wrp_loop.specs.Laws.{EventsAreNumbered}
 use Rattle.wrp_loop.specs.LoopEnds.{IsOverrun}
 use Rattle.wrp_loop.specs.LoopRun.{Carried, ComesBetween, Dropped, FollowsFate, Full, Goes, Going, HandlesAll, IsRound, LoopAt, Loops, On, Plain, Plan, Round, events_at, happened, loop_start, noise_stamp, place, with_event}
 
--- fewer than 4,294,967,295 events came; where the next has that number, one less
+-- fewer than 4,294,967,295 events came; if the next has that number, one fewer than that came
 abbrev HasCount : Going → Type 0
 HasCount (On l) = length (events_at l) < 4_294_967_295
 HasCount (Full l) = length (events_at l) + 1 ≡ 4_294_967_295

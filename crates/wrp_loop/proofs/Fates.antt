@@ -24,7 +24,7 @@ found_is post x network course l way route octets found c is =
     subst (IsFrameOf x.setting (events_at l) way octets) (sym is)
     (finds x.setting (events_at l) way route.from octets course.index.came.items course.index.handed.items c.from_is c.at.0.index)
 
--- the peer of the port is that of the route
+-- the peer of the port is the peer of the route
 pub of_peer : {F : Type 0} (post : F → ℤ → ℤ → Type 0) (x : Plan) (network : LoopedNetwork F) (course : LoopCourse) (l : LoopAt) (way : Way) (route : Route) (octets : List ℕ) → Carries post x network course l way route → IsBy route.peer octets → IsOfPeer x.setting way.to octets
 of_peer post x network course l way route octets c by =
     subst (λ (end : End). IsOfPeer x.setting end octets) (sym c.port_is) (subst (λ p. IsBy p octets) (sym c.peer_is) by)
@@ -83,7 +83,7 @@ forged_one post x network course next l way route frame text c is forged events 
 
 -- All of them
 
--- so many were handled
+-- this many were handled
 pub record HandledFirst {F : Type 0} (post : F → ℤ → ℤ → Type 0) (x : Plan) (network : LoopedNetwork F) (course : LoopCourse) (l : LoopAt) (way : Way) (route : Route) (got : List (ArrayVec ℕ)) (i : ℕ) (old new : List ℕ) : Type 0 where
   pub now : LoopAt
   pub carries : Carries post x network course now way route
@@ -130,7 +130,7 @@ full_first post x network after course next l way route got i frame old mid new 
 drop_none : {A : Type 0} (xs : List A) (i : ℕ) → length xs ≤ i → drop i xs ≡ []
 drop_none xs i h = drop_all i xs h
 
--- all were
+-- all were handled
 pub all_first : {F : Type 0} (post : F → ℤ → ℤ → Type 0) (x : Plan) (network : LoopedNetwork F) (course : LoopCourse) (l : LoopAt) (way : Way) (route : Route) (got : List (ArrayVec ℕ)) (i : ℕ) (old new : List ℕ) → length got ≤ i →
     HandledFirst post x network course l way route got i old new → HandledAll post x network course l way route got true old new
 all_first post x network course l way route got i old new many h = record {
@@ -140,7 +140,7 @@ all_first post x network course l way route got i old new many h = record {
   grows = h.grows;
 }
 
--- What the calls answer of one datagram
+-- What the calls answer for one datagram
 
 pub by_delivery : {F E : Type 0} (post : F → ℤ → ℤ → Type 0) (old new : LoopedNetwork F) (course next : LoopCourse) (route : Route) (frame : ArrayVec ℕ) (i : ℕ) (before text : List ℕ) (r : Result Bool E) →
     IfOk r (λ goes. (x : Plan) (l : LoopAt) (way : Way) (octets : List ℕ) → Carries post x old course l way route → IsSuch x.setting (world_at x l) way octets i → CameOne post x new next l way route (Deliver i) goes before text) →

@@ -1,4 +1,4 @@
--- What an event leaves of frames: each that there was before, and in the order of numbers.
+-- What an event leaves of frames: each that there was before, in the order of numbers.
 use Rattle.std.proofs.Common.{◌≡◌, ◌∙◌, ◌⊎◌, inl, inr, refl, ap, sym, subst, ℕ, ◌+◌, ◌==◌, ◌||◌, ◌≤◌, ℤ, pos, ◌-ℤ◌, ◌≤ℤ◌, Bool, true, false, if◌then◌else◌, List, [], ◌∷◌, Option, None, Some, option_map, Result, arith}
 use Rattle.std.proofs.lemmas.Bool.{eqb-true}
 use Rattle.std.proofs.lemmas.Int.{ints}
@@ -63,7 +63,7 @@ arrived_was s w j raw None i (Some f) g is h = as_it_was w (Arrive j raw) i g (i
 arrived_was s w j raw (Some k) i None g is h = absurd (none-some g h)
 arrived_was s w j raw (Some k) i (Some f) g is h = arriving_was w j i raw f g (i == j) _ _ refl is h
 
--- of a frame that was there before, or has arrived
+-- for a frame that was there before, or has arrived
 abbrev pub IsOld : WorldAt → ℕ → FrameAt → Type 0
 IsOld w i g = (i ≤ w.departed) ⊎ (is_some g.arrival ≡ true)
 
@@ -164,7 +164,7 @@ kept_where false o f octets is h = absurd (none-some octets h)
 young_of : (now sent : ℤ) (life : ℕ) → le_z (now -ℤ sent) (pos life) ≡ true → (now -ℤ sent) ≤ℤ pos life
 young_of now sent life h = grind (arith, ints, h)
 
--- of a frame that has arrived and is kept
+-- for a frame that has arrived and is kept
 pub kept_young : (s : Setting) (w : WorldAt) (i : ℕ) (f : FrameAt) (octets : List ℕ) → w.frame i ≡ Some f → is_some f.arrival ≡ true → octets_at s w i ≡ Some octets → IsYoung s w f × (octets_of f.sending.message ≡ octets)
 kept_young s w i f octets is arrived h =
     let it = kept_where (is_kept s w (w.frame i)) (w.frame i) f octets is h in

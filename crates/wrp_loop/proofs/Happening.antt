@@ -21,12 +21,12 @@ use Rattle.wrp_loop.specs.LoopStands.{CanHappen, Happens}
 use Rattle.wrp_loop.specs.LoopText.{marked_line, step_lines}
 use Rattle.wrp_loop.proofs.Growing.{concat_flat, concat_map}
 
--- what holds in any case holds where it went well
+-- what holds in any case holds if it went well
 pub in_any_case : {T E : Type 0} (P : Type 0) (r : Result T E) → P → OnOk r P
 in_any_case P (Ok value) holds = holds
 in_any_case P (Err error) holds = tt
 
--- what holds in any case holds where it went wrong
+-- what holds in any case holds if it went wrong
 pub in_any_fault : {T E : Type 0} (P : Type 0) (r : Result T E) → P → OnErr r P
 in_any_fault P (Ok value) holds = tt
 in_any_fault P (Err error) holds = holds
@@ -75,7 +75,7 @@ step_text post s w world out node ticks off cfg lent text old stands is told off
     wrote ∙ ((λ i. old ++ flat_map (λ o. output_line (cfg_is i) out.node (ticks_are i) o (Some (offs i))) (lends i))
     ∙ ap (λ (rest : List ℕ). old ++ rest) (sym (concat_map (λ o. output_line s.cfg out.node (w.node out.node).ticks o (Some (w.clock out.node).off)) out.outs.items)))
 
--- what comes of what holds where it went well
+-- what follows from what holds if it went well
 pub on_ok : {T E : Type 0} (P : Type 0) (Q : T → Type 0) (r : Result T E) → IfOk r Q → ((x : T) → Q x → P) → OnOk r P
 on_ok P Q (Ok value) holds then_holds = then_holds value holds
 on_ok P Q (Err error) holds then_holds = tt

@@ -27,7 +27,7 @@ use Rattle.wrp_loop.proofs.Accepting.{IsStill, arriving, deliver_accepted, noise
 abbrev IsGood : Plan → LoopAt → Type 0
 IsGood x l = IsRun x.setting (events_at l) × IsDriven x.scene x.setting x.seed l.turns l.at
 
--- datagrams are handled that came this way, over a link that has its carrier
+-- datagrams that came this way are handled, over a link that has its carrier
 record IsLive (x : Plan) (way : Way) (l : LoopAt) : Type 0 where
   pub good : IsGood x l
   pub lit : has_carrier x.setting (world_at x l) way.link ≡ true

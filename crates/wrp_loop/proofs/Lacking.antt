@@ -3,7 +3,7 @@ use Rattle.std.proofs.Common.{◌≡◌, ◌∙◌, sym, ap, ℕ, ◌+◌, ◌<�
 use Rattle.std.proofs.lemmas.List.{drop_more, drop_all}
 use Rattle.std.specs.List.{flat_map}
 
--- what a text lacks of all is what the elements from the i-th on give
+-- what a text still lacks of the whole is what the elements from the i-th on give
 abbrev pub Lacks : {X : Type 0} → (X → List ℕ) → List X → ℕ → List ℕ → List ℕ → Type 0
 Lacks f xs i text all = text ++ flat_map f (drop i xs) ≡ all
 

@@ -84,7 +84,7 @@ came_full post x old new course next before mid told written waits text h r = re
   forged = r.at.0.forged;
 }
 
--- where it stays
+-- if the loop stays where it is
 stays_at : {F : Type 0} (post : F → ℤ → ℤ → Type 0) (Ends : Plan → List LinkCall → Going → Type 0) (x : Plan) (old new : LoopedNetwork F) (course next : LoopCourse) (before mid told : Option (List LinkCall)) (written waits text : List ℕ) (h : CameSoFar post x old course before mid (written ++ waits)) →
     RoundStays post x new next h.at mid told waits text → Ends x h.calls (On h.at) → EndedSo post Ends x new next before told (written ++ text)
 stays_at post Ends x old new course next before mid told written waits text h r ends = record {
@@ -208,7 +208,7 @@ not_started x before told e = record { calls = []; adds = no_calls before told e
 pub not_begun : (x : Plan) (before told : Option (List LinkCall)) → told ≡ before → StoppedSo x before told []
 not_begun x before told e = record { calls = []; adds = no_calls before told e; frames = tt; stopped = inl (refl, refl) }
 
--- A round can come behind one that came
+-- A round can come after one that came
 
 pub ready_more : {F : Type 0} (pre : F → ℤ → Type 0) (post : F → ℤ → ℤ → Type 0) (old new : LoopedNetwork F) (course next : LoopCourse) (mid told : Option (List LinkCall)) (old_text text : List ℕ) (r : Result Rounded LoopFault) → r ≡ Ok rounded.GoesOn → IsReady pre post old course →
     IsValid pre post new.world → (r ≡ Ok rounded.GoesOn → FitsCourse new next) → (r ≡ Ok rounded.GoesOn → next.forged ≤ 16 * next.events) → ((x : Plan) (l : LoopAt) → StandsAt post x old course l → Rounds post x new next l mid told old_text text r) → IsReady pre post new next

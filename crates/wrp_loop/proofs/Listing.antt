@@ -107,7 +107,7 @@ young_before s events e says y i g event was young =
 listed_as : (f g : FrameAt) (i : ℕ) (came : List Came) → g.link ≡ f.link → g.by ≡ f.by → In (came_at i (end_number f.link f.by)) came → In (came_at i (end_number g.link g.by)) came
 listed_as f g i came link by h = subst (λ k. In (came_at i k) came) (λ j. end_number (sym link j) (sym by j)) h
 
--- an event that is no arrival, and hands no frame over
+-- an event that is not an arrival and hands no frame over
 pub other_event : (s : Setting) (events : List Happened) (e : Event) (says : Result PtpMsg FrameFault) (y : ℤ) (came handed : List Came) → IsEventOf s.cfg e → ((i : ℕ) → IsArrivalAt e i → ⊥) → ((i : ℕ) → hands i e ≡ false) →
     IsIndex s events came handed → IsIndex s (happened e says y ∷ events) came handed
 other_event s events e says y came handed event none hands_none h =
@@ -224,7 +224,7 @@ delivery_event s events j from says y came handed here h =
       ];
     }
 
--- Some are forgotten, none of which is kept
+-- Some frames are forgotten, none of which is kept
 
 abbrev NoneKept : Setting → WorldAt → List Came → Type 0
 NoneKept s w first = AllByRecursion (λ c. octets_at s w c.number ≡ None) first

@@ -1,4 +1,4 @@
--- A run over a link as it goes on, round by round, and what stands where it ends.
+-- A run over a link as it goes on, round by round, and what the output is when it ends.
 use Rattle.std.proofs.Common.{◌≡◌, ◌∙◌, inl, inr, refl, ap, sym, subst, append-nil, true, false, ℕ, ℤ, Bool, Option, None, Some, Ok, List, [], ◌++◌, length, map, take}
 use Rattle.std.specs.Io.KnownBytes.{Appends, Consumes, IsAtEnd}
 use Rattle.std.specs.List.{AllByRecursion}
@@ -50,7 +50,7 @@ use Rattle.wrp_world.specs.HasLaws.{HasLaws}
 use Rattle.wrp_world.specs.New.{setting_of}
 use Rattle.wrp_world.specs.StandsFor.{IsValid, StandsFor, WorldOf}
 
--- no calls leave what a link tells
+-- with no calls, what a link shows is unchanged
 pub no_calls : (told : Option (List LinkCall)) → Grew told told []
 no_calls None = refl
 no_calls (Some calls) = ap Some (sym (append-nil calls))
@@ -68,7 +68,7 @@ lawful_here {post = post} net l world valid is stands laws =
 
 -- A loop that came so far
 
--- it went on, or is over: the calls, the text of its events, and the world behind them
+-- it went on, or is over: the calls, the text of its events, and the world after them
 pub record Came {F : Type 0} (post : F → ℤ → ℤ → Type 0) (x : Plan) (network : LoopedNetwork F) (before told : Option (List LinkCall)) (text : List ℕ) : Type 0 where
   pub last : Going
   pub calls : List LinkCall
@@ -93,7 +93,7 @@ came_by {post = post} x network course before told written waits now rounded.Goe
 came_by {post = post} x network course before told written waits now rounded.Over h = came_to {post = post} Over x network course before told (written ++ now) h.1
 came_by {post = post} x network course before told written waits now rounded.TooLarge h = came_to {post = post} Large x network course before told (written ++ now) h
 
--- where memory lacks, it stands as it is
+-- if memory runs out, a loop counts as it is
 short_of : (x : Plan) (calls : List LinkCall) (last : Going) → Loops x calls last → IsShort x calls last
 short_of x calls (On l) loops = record { before = calls; made = []; all = sym (append-nil calls); loops = loops; which = inl refl }
 short_of x calls (Full l) loops = loops
@@ -116,7 +116,7 @@ writes_all {post = post} x network course before told held mid now written text 
 
 -- Ends
 
--- memory lacked, behind lines that were written
+-- memory ran out, after lines that were written
 pub lacks : {F : Type 0} {post : F → ℤ → ℤ → Type 0} (s : Setting) (scene : SceneAt) (seed : ℕ) (network : LoopedNetwork F) (before told : Option (List LinkCall)) (held now : Option (List ℕ)) (written : List ℕ)
     → (came : Came post (plan_of s scene seed) network before told written) → IsLawful s (place came.last) → Appends held now written → Ran s scene seed before told held now OutOfMemory
 lacks s scene seed network before told held now written came law wrote = record {
@@ -127,7 +127,7 @@ lacks s scene seed network before told held now written came law wrote = record 
   so = λ lines said. inr (record { scene = scene; said = said; last = came.last; short = short_of (plan_of s scene seed) came.calls came.last came.loops; frames = came.frames; answered = law }, came.is);
 }
 
--- memory lacked in a round, behind lines that were written
+-- memory ran out in a round, after lines that were written
 pub stops_short : (s : Setting) (scene : SceneAt) (seed : ℕ) (before told : Option (List LinkCall)) (held now : Option (List ℕ)) (written : List ℕ) (l : LoopAt) (calls : List LinkCall)
     → Grew before told calls → ComesShort (plan_of s scene seed) calls l → AllByRecursion IsFrameCall calls → IsLawful s l → written ≡ loop_text s (events_at l) → Appends held now written → Ran s scene seed before told held now OutOfMemory
 stops_short s scene seed before told held now written l calls adds short frames law is wrote = record {
@@ -174,7 +174,7 @@ round_failed {post = post} s scene seed network course before mid told held now 
       fails = r.cut;
     }) (all_append IsFrameCall so_far.came.calls r.calls so_far.came.frames r.frames) law (all_written {post = post} (plan_of s scene seed) network course before mid held now waiting none so_far) so_far.wrote
 
--- memory lacked in the next round
+-- memory ran out in the next round
 pub round_lacks : {F : Type 0} {post : F → ℤ → ℤ → Type 0} (s : Setting) (scene : SceneAt) (seed : ℕ) (network : LoopedNetwork F) (course : LoopCourse) (before mid told : Option (List LinkCall)) (held now : Option (List ℕ)) (waiting : List ℕ)
     → waiting ≡ [] → (so_far : Rounding post (plan_of s scene seed) network course before mid held now waiting) → IsLawful s so_far.came.at → RoundLacks (plan_of s scene seed) so_far.came.at mid told
     → Ran s scene seed before told held now OutOfMemory
@@ -184,7 +184,7 @@ round_lacks {post = post} s scene seed network course before mid told held now w
     (record { before = so_far.came.calls; made = r.calls; all = refl; loops = so_far.came.loops; which = r.which }) (all_append IsFrameCall so_far.came.calls r.calls so_far.came.frames r.frames) law
     (all_written {post = post} (plan_of s scene seed) network course before mid held now waiting none so_far) so_far.wrote
 
--- a write failed: a part of the lines of the events so far stands
+-- a write failed: a part of the lines of the events so far is written
 pub unwritten : {F : Type 0} {post : F → ℤ → ℤ → Type 0} (s : Setting) (scene : SceneAt) (seed : ℕ) (network : LoopedNetwork F) (before told : Option (List LinkCall)) (held mid now : Option (List ℕ)) (written text : List ℕ)
     → (came : Came post (plan_of s scene seed) network before told (written ++ text)) → IsLawful s (place came.last) → Appends held mid written → AppendsPart mid now text → Ran s scene seed before told held now WriteFault
 unwritten s scene seed network before told held mid now written text came law wrote part =
@@ -207,7 +207,7 @@ unwritten s scene seed network before told held mid now written text came law wr
       );
     }
 
--- the last lines are written behind the others, or a part of them
+-- the last lines are written after the others, or a part of them is
 ends_with : (s : Setting) (scene : SceneAt) (seed : ℕ) (before told : Option (List LinkCall)) (held mid now : Option (List ℕ)) (due status : Status) (written last : List ℕ) (calls : List LinkCall)
     → Grew before told calls → Appends held mid written → Finishes due status mid now last
     → ((lines : List (List ℕ)) → IsScenario s lines scene → RanDue s seed lines calls due (written ++ last)) → ((lines : List (List ℕ)) → IsScenario s lines scene → RanSo s seed lines calls due (written ++ last))
@@ -253,7 +253,7 @@ large_ran s scene seed network course before told held mid now written waiting s
     (λ lines said. (record { scene = scene; said = said; last = ended.last; ends = ended.ends; frames = ended.frames; answered = law }, ap (λ (l : List ℕ). l ++ large_line event_limit) ended.is))
     (λ lines said. (record { scene = scene; said = said; last = ended.last; ends = ended.ends; frames = ended.frames; answered = law }, ap (λ (l : List ℕ). l ++ large_line event_limit) ended.is))
 
--- what names the number of an event is no fault of a link
+-- the line that names the number of an event is no fault of a link
 pub large_unlinked : (status : Status) (before now : Option (List ℕ)) (waiting : List ℕ) → ClosesLarge status before now waiting → status ≡ LinkFault → ⊥
 large_unlinked status before now waiting (inl memory) is = let both : OutOfMemory ≡ LinkFault = sym memory.0 ∙ is in cc
 large_unlinked status before now waiting (inr (inl all)) is = let both : TooLarge ≡ LinkFault = sym all.0 ∙ is in cc
@@ -261,7 +261,7 @@ large_unlinked status before now waiting (inr (inr cut)) is = let both : WriteFa
 
 -- Before the first round
 
--- there was no memory
+-- memory ran out
 pub nothing_ran : (s : Setting) (scene : SceneAt) (seed : ℕ) (before told : Option (List LinkCall)) (held now : Option (List ℕ)) → Grew before told [] → Appends held now [] → Ran s scene seed before told held now OutOfMemory
 nothing_ran s scene seed before told held now adds wrote = record { calls = []; text = []; called = adds; wrote = wrote; so = λ lines said. inl (refl, refl) }
 
@@ -333,7 +333,7 @@ passes_unran s seed T source sink link rest had_ended r status h other at_end st
       linked = record { failed = λ is. absurd (never is); sound = λ one. sound };
     }
 
--- nothing was taken or written, for want of memory
+-- nothing was taken or written, because memory ran out
 pub passes_none : (s : Setting) (seed : ℕ) (source sink : Passage (List ℕ)) (link : Passage (List LinkCall)) (rest : List ℕ) (ended : Bool) → Consumes source.before source.now [] → Appends sink.before sink.now [] → link.now ≡ link.before
     → (ended ≡ true → IsAtEnd source.now) → IsSound source → IsSound sink → IsSound link → LoopPasses s seed source sink link rest ended ended OutOfMemory
 passes_none s seed source sink link rest ended taken wrote same at_end read write linked =

@@ -1,4 +1,4 @@
--- What was taken is told by the receptions.
+-- The receptions determine what was taken.
 use Rattle.std.proofs.Common.{◌≡◌, refl, ap, ap₂, sym, ℕ, zero, suc, ◌≤◌, List, [], ◌∷◌, ◌++◌, length, None, Some, arith}
 use Rattle.arrayvec.specs.ArrayVec.{ArrayVec}
 use Rattle.wrp_io.specs.declared.link.LinkCall.{LinkCall}

@@ -19,8 +19,8 @@ use Rattle.wrp_loop.specs.Index.{In, IsEntry, IsIndex, came_at, chosen, fits, gr
 use Rattle.wrp_loop.proofs.Choices.{choice_same}
 use Rattle.wrp_loop.proofs.Frames.{kept_young, young_octets}
 
--- What a choice tells of those that were seen: each is such, the open one is the least of those that are open, and the last one
--- the greatest
+-- What a choice says of the frames that were seen: each is such, the open one is the least of those that are open,
+-- and the last one is the greatest
 
 abbrev TellsOpen : (Such Seen : ℕ → Type 0) → (handed : ℕ → Bool) → Option ℕ → Type 0
 TellsOpen Such Seen handed None = (j : ℕ) → Seen j → handed j ≡ true
@@ -68,7 +68,7 @@ last_more Such Seen n (Some i) s h =
           (subst Such is s, λ j seen. elim seen [ inl old ↦ (let high = h.1 j old in omega (arith, high)) | inr same ↦ omega (arith, same) ])
     ]
 
--- all of a list were seen that fit
+-- all frames of a list that fit were seen
 abbrev SeenIn : (fits : Came → Bool) → List Came → ℕ → Type 0
 SeenIn fits [] j = ⊥
 SeenIn fits (c ∷ came) j = ((j ≡ c.number) × (fits c ≡ true)) ⊎ SeenIn fits came j
@@ -125,7 +125,7 @@ answers Such Seen handed (Some i) last all h k =
 answers Such Seen handed None (Some i) all h k = record { such = k.0; which = inr (λ j s. (h j (all j s), k.1 j (all j s))) }
 answers Such Seen handed None None all h k = λ j s. k j (all j s)
 
--- Of the frames that arrived
+-- The frames that arrived
 
 same_octets : (a b : List ℕ) → pointwise nat_eq a b ≡ true → a ≡ b
 same_octets [] [] h = refl

@@ -1,4 +1,4 @@
--- What a loop stands for as events come: one of the simulator, or one between.
+-- What a loop stands for as events come, of the simulator or in between.
 use Rattle.std.proofs.Common.{◌≡◌, ◌∙◌, inl, inr, refl, ap, sym, subst, ℕ, zero, suc, ℤ, ◌+◌, ◌<◌, ◌≤◌, Bool, true, false, if◌then◌else◌, List, [], ◌∷◌, ◌++◌, length, Some, option_map, Result, Err, arith}
 use Rattle.std.proofs.lemmas.Option.{same_Some}
 use Rattle.std.specs.Option.{is_some}
@@ -136,7 +136,7 @@ plain_hands (Join k ms sm) plain i = refl
 pub has_room : {F : Type 0} (post : F → ℤ → ℤ → Type 0) (x : Plan) (network : LoopedNetwork F) (course : LoopCourse) (l : LoopAt) → HasLooped post x network course l → course.events + 1 < event_limit → HasRoom l
 has_room post x network course l has room = let own = has.count in omega (arith, own, room)
 
--- an event that is no arrival and hands nothing over
+-- an event that is not an arrival and hands nothing over
 pub plain_came : {F : Type 0} (post : F → ℤ → ℤ → Type 0) → EventsAreAccepted → (x : Plan) (old new : LoopedNetwork F) (course next : LoopCourse) (l : LoopAt) (e : Event) (before text : List ℕ) → IsPlain e → course.events + 1 < event_limit →
     HasNext post x old course l e → Happens post e old.world new.world before text → next.events ≡ course.events + 1 → next.forged ≡ course.forged → next.sim ≡ course.sim → next.index ≡ course.index → CamePlain post x new next l before text
 plain_came post sim x old new course next l e before text plain room n h count forged same index =
@@ -169,7 +169,7 @@ arrival_listed post sim x old course l j from raw says answer f n is on sent =
 
 -- Between the events of the simulator
 
--- one came
+-- an event in between came
 pub between_came : {F : Type 0} (post : F → ℤ → ℤ → Type 0) (x : Plan) (old new : LoopedNetwork F) (course next : LoopCourse) (l : LoopAt) (way : Way) (route : Route) (e : Event) (before text : List ℕ) → MayBeBetween e → IsStill e →
     IsEventOf x.setting.cfg e → ((says : Result PtpMsg FrameFault) → IsSaid e says → Accepts x.setting (world_at x l) says e) → course.events + 1 < event_limit →
     Carries post x old course l way route → (h : Happens post e old.world new.world before text) →

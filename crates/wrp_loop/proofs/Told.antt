@@ -1,4 +1,4 @@
--- What a loop comes to is told by what the link told.
+-- What the link gave determines what a loop comes to.
 use Rattle.std.proofs.Common.{◌≡◌, ◌∙◌, inl, inr, refl, ap, ap₂, sym, subst, ℕ, ℤ, suc, ◌+◌, ◌||◌, List, [], ◌∷◌, ◌++◌, length, flat_map, Option, None, Some, arith}
 use Rattle.std.proofs.lemmas.Option.{none-some, same_Some}
 use Rattle.std.specs.List.{concat}
@@ -31,7 +31,7 @@ use Rattle.wrp_loop.proofs.Receptions.{same_taken, tails}
 use Rattle.wrp_one_world_laws.specs.OneWorld.{Alike, SameEvents, answers_of}
 use Rattle.wrp_one_world_laws.proofs.OneWorld.{alike_after, before_newest, steps_after}
 
--- What is told of events
+-- What is given for events
 
 abbrev Told : (ℕ → ℤ → ℤ) → Setting → List Happened → Type 0
 Told law s events = AllSaid events × IsAnswered (answers_of law) s (world_after s events)
@@ -69,7 +69,7 @@ goes_told law x now [] calls last g t = subst (ToldAt law x) g.1 t
 goes_told law x (Full l) (r ∷ rounds) calls last g t = absurd g
 goes_told law x (On l) (r ∷ rounds) calls last g t = round_told law x l r g.1 g.0 g.3 (goes_told law x g.0 rounds g.2 last g.5 t)
 
--- Two loops that are one so far
+-- Two loops that are the same so far
 
 record SameAt (l m : LoopAt) : Type 0 where
   pub events : SameEvents (events_at l) (events_at m)
@@ -207,7 +207,7 @@ given_one law last x l m d e new other same t u f g =
 kinds_one : (d e : Event) (new other : SimAt) → next_with d new ≡ next_with e other → kind_of d ≡ kind_of e
 kinds_one d e new other h = ap (λ (n : Next). kind_of n.event) h
 
--- the way of a frame is one
+-- a frame has one way
 way_one : (s : Setting) (f g : FrameAt) (way other : Way) (octets others : List ℕ) → f ≡ g → IsWayOf s f way octets → IsWayOf s g other others → (way ≡ other) × (octets ≡ others)
 way_one s f g way other octets others same h k =
     let link : way.link ≡ other.link = h.link_is ∙ ap (λ (a : FrameAt). a.link) same ∙ sym k.link_is in
@@ -357,7 +357,7 @@ goes_one law last x (On l) (On m) (r ∷ rounds) (k ∷ others) calls a b first 
     goes_one law last x g.0 h.0 rounds others g.2 a b first second one.going_same g.5
     (subst (λ (later : List LinkCall). Goes x h.0 others later b) (sym one.later) h.5) ea eb t u
 
--- one place has one ending
+-- one place has only one ending
 ending_one : (law : ℕ → ℤ → ℤ) → ToldLast → (x : Plan) (a b : Going) (first second : Ending) → SameGoing a b → ToldAt law x a → ToldAt law x b → IsEnd x first a → IsEnd x second b → first ≡ second
 ending_one law last x a b Over Over same t u ea eb = refl
 ending_one law last x a b Large Large same t u ea eb = refl

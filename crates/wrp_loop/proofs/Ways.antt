@@ -89,7 +89,7 @@ sender_place s net w i n p f flies told =
     let same : (n, p) ≡ port_in end = same_Some (n, p) (port_in end) (told ∙ ap (option_map port_in) (sender_is s w i f it.0 flies it.1)) in
     ap (λ (x : ℕ × ℕ). place_of s x.0 x.1) same ∙ end_found s net f.link f.by end (ap (option_map (end_of f.by)) it.1)
 
--- there is one
+-- there is such a place
 pub no_place : (s : Setting) → IsNetwork s → (w : WorldAt) (i n p : ℕ) (f : FrameAt) (cfg : NetCfg) → cfg ≡ s.cfg → Flies w s i f → Some (n, p) ≡ option_map port_in (sender_of s w i) → None ≡ place_among n p 0 cfg.links.items → ⊥
 no_place s net w i n p f cfg same flies told none =
     none-some (record { link = f.link; role = f.by }) (none ∙ (ap (λ (c : NetCfg). place_among n p 0 c.links.items) same ∙ sender_place s net w i n p f flies told))
@@ -114,7 +114,7 @@ peer_identity cfg Slave link = refl
 abbrev at_port : (cfg : NetCfg) → ℕ × ℕ → PortIdentity
 at_port cfg x = record { clock = identity_of cfg x.0; port = x.1 }
 
--- the whole way, of what the code has of it
+-- the whole way, by what the code has of it
 pub route_is : (s : Setting) → IsNetwork s → (w : WorldAt) (i n p : ℕ) (f : FrameAt) (cfg : NetCfg) (place : Place) (from to node port clock : ℕ) → cfg ≡ s.cfg → Flies w s i f → Some (n, p) ≡ option_map port_in (sender_of s w i) →
     place_among n p 0 cfg.links.items ≡ Some place → from ≡ end_number place.link place.role → to ≡ end_number (across place).link (across place).role →
     option_map (λ link. (end_of (across place).role link).node) (slice_get cfg.links.items (across place).link) ≡ Some node →

@@ -33,7 +33,7 @@ pub record Way : Type 0 where
   pub by : Role
   pub to : End
 
--- the number of the end where a frame is sent, and of the one where it is received
+-- the number of the end where a frame is sent, and of the end where it is received
 abbrev pub sending_end : Way → ℕ
 sending_end way = end_number way.link way.by
 
@@ -74,7 +74,7 @@ handed_in (h ∷ before) i = hands i h.event || handed_in before i
 abbrev pub IsLeastOpen : (Such : ℕ → Type 0) → (handed : ℕ → Bool) → ℕ → Type 0
 IsLeastOpen Such handed i = (handed i ≡ false) × ((j : ℕ) → Such j → j < i → handed j ≡ true)
 
--- the greatest, where all were handed over
+-- the greatest, if all were handed over
 abbrev pub IsGreatest : (Such : ℕ → Type 0) → (handed : ℕ → Bool) → ℕ → Type 0
 IsGreatest Such handed i = (j : ℕ) → Such j → (handed j ≡ true) × (j ≤ i)
 
@@ -88,7 +88,7 @@ abbrev pub Chooses : (Such : ℕ → Type 0) → (handed : ℕ → Bool) → Opt
 Chooses Such handed None = (j : ℕ) → Such j → ⊥
 Chooses Such handed (Some i) = IsChoice Such handed i
 
--- which frame a datagram is that came this way with these octets, behind these events
+-- which frame a datagram is that came this way with these octets, after these events
 abbrev pub IsFrameOf : Setting → List Happened → Way → List ℕ → Option ℕ → Type 0
 IsFrameOf s events way octets found = Chooses (IsSuch s (world_after s events) way octets) (handed_in events) found
 

@@ -18,14 +18,14 @@ use Rattle.wrp_loop.specs.Datagrams.{end_number, handed_in}
 abbrev pub no_choice : Choice
 no_choice = record { least = None; greatest = None }
 
--- the lesser and the greater of two numbers, of which the first may be missing
+-- the lesser and the greater of two numbers, the first of which may be missing
 abbrev pub lesser : Option ℕ → ℕ → ℕ
 lesser found number = option_map_or (λ other. min other number) found number
 
 abbrev pub greater : Option ℕ → ℕ → ℕ
 greater found number = option_map_or (λ other. max other number) found number
 
--- the choice with one frame more, which may be what is looked for, and may have been handed over
+-- the choice with one more frame, which may be what is looked for, and may have been handed over
 abbrev pub with_frame : (fits handed : Bool) → ℕ → Choice → Choice
 with_frame false handed number choice = choice
 with_frame true true number choice = record choice { greatest = Some (greater choice.greatest number) }
@@ -50,7 +50,7 @@ has_octets s w octets number = option_map_or (λ found. pointwise nat_eq found o
 abbrev pub fits : Setting → WorldAt → (from : ℕ) → List ℕ → Came → Bool
 fits s w from octets c = (c.from == from) && has_octets s w octets c.number
 
--- a frame of this number is among these
+-- a frame with this number is among these
 abbrev pub has_number : List Came → ℕ → Bool
 has_number [] number = false
 has_number (c ∷ came) number = (c.number == number) || has_number came number
@@ -73,12 +73,13 @@ pub record HasArrived (w : WorldAt) (i : ℕ) : Type 0 where
   pub given : i ≤ w.departed
   pub arrived : (f : FrameAt) → w.frame i ≡ Some f → is_some f.arrival ≡ true
 
--- an entry is that of such a frame, with the end that sent it
+-- an entry belongs to such a frame, and has the end that sent it
 pub record IsEntry (w : WorldAt) (c : Came) : Type 0 where
   pub here : HasArrived w c.number
   pub sent : (f : FrameAt) → w.frame c.number ≡ Some f → c.from ≡ end_number f.link f.by
 
--- all frames that have arrived and are young are listed, and of each is told whether it was handed over
+-- all frames that have arrived and are young are listed, and for each it is shown whether it was handed
+-- over
 pub record IsIndex (s : Setting) (events : List Happened) (came handed : List Came) : Type 0 where
   pub each : (c : Came) → In c came → IsEntry (world_after s events) c
   pub all :
@@ -90,7 +91,7 @@ pub record IsIndex (s : Setting) (events : List Happened) (came handed : List Ca
   pub only : (i : ℕ) → has_number handed i ≡ true → handed_in events i ≡ true
   pub done : (i : ℕ) → handed_in events i ≡ true → HasArrived (world_after s events) i
 
--- the first of these are forgotten, of which none is kept any more
+-- the first of these are forgotten, and none of them is kept any longer
 pub record Forgets {F : Type 0} (post : F → ℤ → ℤ → Type 0) (world : WorldOf F) (old new : List Came) : Type 0 where
   pub first : List Came
   pub are : old ≡ first ++ new

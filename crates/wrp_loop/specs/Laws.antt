@@ -20,7 +20,7 @@ OneFrame =
     (s : Setting) (events : List Happened) (way : Way) (octets : List ℕ) (a b : Option ℕ) →
     IsFrameOf s events way octets a → IsFrameOf s events way octets b → a ≡ b
 
--- what is found in lists that tell of all frames a datagram may be is the frame that the rule names
+-- the frame found in lists that show all frames a datagram may be is the frame that the rule names
 abbrev pub IndexChooses : Type 0
 IndexChooses =
     (s : Setting) (events : List Happened) (way : Way) (octets : List ℕ) (came handed : List Came) →
@@ -28,7 +28,7 @@ IndexChooses =
     IsFrameOf s events way octets
     (chosen (with_all (fits s (world_after s events) (sending_end way) octets) (has_number handed) came no_choice))
 
--- the ends that tell of no fault and of no want of memory
+-- the ends that report neither a fault nor that memory ran out
 pub data Ending : Type 0 where
   Over : Ending
   Large : Ending
@@ -48,23 +48,24 @@ pub record AreOneLoop (x : Plan) (a b : Going) : Type 0 where
   pub counters :
       (n : ℕ) → ((world_at x (place b)).node n).counters ≡ ((world_at x (place a)).node n).counters
 
--- how a loop ends and what it writes is told by what the link told, whatever is noted beside octets and measurements
+-- what the link gave determines how a loop ends and what it writes, whatever is noted apart from octets and
+-- measurements
 abbrev pub OneLoop : Type 0
 OneLoop =
     (law : ℕ → ℤ → ℤ) (x : Plan) (calls : List LinkCall) (a b : Going) (first other : Ending) →
     EndsAs x calls first a → EndsAs x calls other b → IsAnsweredBy law x a → IsAnsweredBy law x b →
     (first ≡ other) × AreOneLoop x a b
 
--- of all its lines those of the events, without their marks, are the lines of its events, and the others are what an audit
--- of these events writes, and then the line of forged datagrams; the lines of counters are no lines of events
+-- among all its lines, the marked ones, without their marks, are the lines of its events; the others are what an
+-- audit of these events writes, and then the line of forged datagrams; the lines of counters are not lines of events
 abbrev pub LoopIsAudited : Type 0
 LoopIsAudited =
     (s : Setting) (events : List Happened) (counts : List (List ℕ)) (forged : ℕ) → IsNetwork s → NoneIsMarked counts →
     (marked_in (all_lines s events counts forged) ≡ told_lines s events)
     × (others_in (all_lines s events counts forged) ≡ (audit_lines s events ++ counts) ++ forged_lines forged)
 
--- no event of a loop breaks a premise, whatever the link does: they are a run of the world, and its turns are those of the
--- simulator
+-- no event of a loop breaks a premise, whatever the link does: the events are a run of the world, and the turns are
+-- turns of the simulator
 abbrev pub LoopKeepsTheBounds : Type 0
 LoopKeepsTheBounds =
     (x : Plan) (calls : List LinkCall) (last : Going) → IsNetwork x.setting → IsSceneOf x.setting.cfg x.scene →
@@ -72,8 +73,8 @@ LoopKeepsTheBounds =
     IsRun x.setting (events_at (place last))
     × IsDriven x.scene x.setting x.seed (place last).turns (place last).at
 
--- no event of a loop has the number 4,294,967,295; and where the number of the next event is too great, an event came for each
--- number below it
+-- no event of a loop has the number 4,294,967,295; and if the number of the next event is too great, an event came
+-- for each number below it
 abbrev pub EventsAreNumbered : Type 0
 EventsAreNumbered =
     (x : Plan) (calls : List LinkCall) (last : Going) → Loops x calls last →

@@ -1,4 +1,4 @@
--- How a loop ends, and of which events the lines then stand (this project's profile).
+-- How a loop ends, and the lines of which events have then been written (this project's profile).
 use Rattle.std.specs.Prelude.{◌≡◌, ◌⊎◌, ℕ, List, [], ◌++◌, None, Some}
 use Rattle.wrp_io.specs.declared.link.LinkCall.{LinkCall}
 use Rattle.wrp_sim.specs.Rules.{Next}
@@ -24,14 +24,14 @@ abbrev pub IsOverrun : Plan → Going → Type 0
 IsOverrun x (On l) = NextIsTooMany x l
 IsOverrun x (Full l) = Unit {0}
 
--- a loop came to where it is over, or to an event whose number is too great
+-- a loop is over, or came to an event whose number is too great
 abbrev pub EndsOver : Plan → List LinkCall → Going → Type 0
 EndsOver x calls last = Loops x calls last × IsOver x last
 
 abbrev pub EndsLarge : Plan → List LinkCall → Going → Type 0
 EndsLarge x calls last = Loops x calls last × IsOverrun x last
 
--- a call of the link failed at an arrival, behind such a loop
+-- a call of the link failed at an arrival, after such a loop
 pub record CallFails (x : Plan) (calls : List LinkCall) (l : LoopAt) : Type 0 where
   pub before : List LinkCall
   pub cut : List LinkCall
@@ -43,7 +43,8 @@ pub record CallFails (x : Plan) (calls : List LinkCall) (l : LoopAt) : Type 0 wh
   pub arrives : FrameArrives x l number way octets
   pub fails : AreCutCalls (sending_end way) (receiving_end way) octets cut
 
--- a call of the link failed: its start, and nothing was written, or one at an arrival, of which nothing is written
+-- a call of the link failed: either its start, and nothing was written, or a call at an arrival, and nothing of
+-- that arrival is written
 abbrev pub LinkFailed : Plan → List LinkCall → List ℕ → Type 0
 LinkFailed x calls text =
     ((calls ≡ []) × (text ≡ []))

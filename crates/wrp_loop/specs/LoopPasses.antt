@@ -1,4 +1,5 @@
--- What passes where the records of a run over a link are handled, and it then runs (this project's profile).
+-- What passes when the records of a run over a link are handled and the run then takes place (this project's
+-- profile).
 use Rattle.std.specs.Prelude.{◌≡◌, ◌⊎◌, ℕ, ℤ, Bool, true, Option, List, [], ◌++◌, map, take}
 use Rattle.std.specs.Io.KnownBytes.{Appends, Consumes, IsAtEnd}
 use Rattle.wrp_course.specs.Setting.{Setting}
@@ -22,7 +23,7 @@ use Rattle.wrp_scene.specs.Scenario.{SceneAt}
 
 -- Before any call
 
--- a status that tells of words, of a network text, of a record or of the source: no link was called before it
+-- a status that is about words, a network text, a record or the source: no link was called before it
 abbrev pub IsUncalled : Status → Type 0
 IsUncalled Done = ⊥
 IsUncalled TooLarge = ⊥
@@ -31,10 +32,10 @@ IsUncalled LinkFault = ⊥
 IsUncalled OutOfMemory = ⊥
 IsUncalled status = Unit {0}
 
--- Behind a scenario
+-- After a scenario
 
--- what is due where a loop by the scenario that these lines say ended with a status, and its link told these calls; where memory
--- lacked before it began, nothing
+-- what is expected if a loop by the scenario that these lines say ended with a status, and its link showed these
+-- calls; nothing, if memory ran out before the loop began
 abbrev pub RanDue : Setting → ℕ → List (List ℕ) → List LinkCall → Status → List ℕ → Type 0
 RanDue s seed lines calls Done text = LoopCloses s seed calls lines text
 RanDue s seed lines calls TooLarge text = LoopBreaks s seed calls lines TooLarge text
@@ -42,8 +43,9 @@ RanDue s seed lines calls OutOfMemory text =
     ((calls ≡ []) × (text ≡ [])) ⊎ LoopBreaks s seed calls lines OutOfMemory text
 RanDue s seed lines calls _ text = ⊥
 
--- what was written: right before its link starts a loop hands its sink an empty piece, and where the sink failed there, no call was
--- made and nothing is written; where it failed later, these are the first octets of what is due
+-- what was written: right before its link starts, a loop gives its sink an empty piece, and if the sink failed
+-- there, no call was made and nothing is written; if it failed later, these are the first octets of what is
+-- expected
 abbrev pub RanSo : Setting → ℕ → List (List ℕ) → List LinkCall → Status → List ℕ → Type 0
 RanSo s seed lines calls WriteFault text =
     ((calls ≡ []) × (text ≡ []))
@@ -51,8 +53,8 @@ RanSo s seed lines calls WriteFault text =
 RanSo s seed lines calls LinkFault text = LoopBreaks s seed calls lines LinkFault text
 RanSo s seed lines calls status text = RanDue s seed lines calls status text
 
--- a network ran by a scenario over a link, which told the first before and the second then: these calls were made, and this was
--- written
+-- a network ran by a scenario over a link, which showed the first calls before and the second calls after: these
+-- calls were made, and this was written
 pub record Ran (s : Setting) (scene : SceneAt) (seed : ℕ) (before told : Option (List LinkCall)) (held now : Option (List ℕ))
     (status : Status) : Type 0 where
   pub calls : List LinkCall
@@ -63,15 +65,16 @@ pub record Ran (s : Setting) (scene : SceneAt) (seed : ℕ) (before told : Optio
 
 -- With its records
 
--- what stands where so much was taken, and the input ended with it or not: the records do not all say a scenario, or were not
--- all taken, and no call was made; or they do, and the network ran
+-- what the output is, given what was taken and whether the input ended with it: either the records do not all say a
+-- scenario, or were not all taken, and no call was made; or they do, and the network ran
 abbrev pub LoopAfter : Setting → ℕ → List ℕ → Bool → List LinkCall → Status → List ℕ → Type 0
 LoopAfter s seed taken ended calls status text =
     ((calls ≡ []) × After (of_lines (scenario_of s)) taken ended [] status text)
     ⊎ ((ended ≡ true) × Handles (SimAccepts s) (lines_of taken) []
     × RanSo s seed (map content_of (lines_of taken)) calls status text)
 
--- behind octets that were held, and an input that had ended or not, the records were handled, and the network ran over the link
+-- after octets that were held, and an input that had ended or not, the records were handled, and the network ran
+-- over the link
 pub record LoopPasses (s : Setting) (seed : ℕ) (source sink : Passage (List ℕ)) (link : Passage (List LinkCall))
     (held : List ℕ) (had_ended ended : Bool) (status : Status) : Type 0 where
   pub given : List ℕ
@@ -96,7 +99,7 @@ pub record Rounding {F : Type 0} (post : F → ℤ → ℤ → Type 0) (x : Plan
   pub wrote : Appends held now written
   pub came : CameSoFar post x network course before told (written ++ waiting)
 
--- what closes a loop is written behind what waits, or a part of that; or there is no memory for it
+-- what closes a loop is written after what waits, or a part of that is written; or memory runs out
 abbrev pub ClosesLoop : Setting → LoopAt → Status → Option (List ℕ) → Option (List ℕ) → List ℕ → Type 0
 ClosesLoop s l status before now waiting =
     ((status ≡ OutOfMemory) × (now ≡ before)) ⊎ Finishes Done status before now (waiting ++ closing_lines s l)

@@ -1,6 +1,6 @@
--- Runs of a loop: the events and the forged datagrams that come of what a link told (this project's profile). The simulator gives
--- events; its arrivals make calls of the link, and what the link then gives is handled. Events and turns are newest first, rounds
--- and calls oldest first.
+-- Runs of a loop: the events and the forged datagrams that follow from what a link gave (this project's profile).
+-- The simulator gives events; its arrivals make calls of the link, and what the link then gives is handled. Events
+-- and turns are newest first, rounds and calls oldest first.
 use Rattle.std.specs.Prelude.{◌≡◌, ℕ, ℤ, ◌+◌, ◌*◌, ◌-◌, ◌<◌, ◌≤◌, ◌⊎◌, List, [], ◌∷◌, ◌++◌, length, Some, Result}
 use Rattle.arrayvec.specs.ArrayVec.{ArrayVec}
 use Rattle.wrp_base.specs.declared.message.PtpMsg.{PtpMsg}
@@ -48,14 +48,14 @@ world_at x l = world_after x.setting (events_at l)
 
 -- Numbers of events
 
--- the next event has a number that it may have, or it has not
+-- the next event has a number that is allowed, or it does not
 abbrev pub HasRoom : LoopAt → Type 0
 HasRoom l = length (events_at l) + 1 < event_limit
 
 abbrev pub IsFull : LoopAt → Type 0
 IsFull l = length (events_at l) + 1 ≡ event_limit
 
--- a loop goes on from here, or is over since the number of its next event is too great
+-- a loop goes on from here, or is over because the number of its next event is too great
 pub data Going : Type 0 where
   On : (at : LoopAt) → Going
   Full : (at : LoopAt) → Going
@@ -69,7 +69,7 @@ place (Full l) = l
 abbrev pub happened : Event → Result PtpMsg FrameFault → ℤ → Happened
 happened e says answer = record { event = e; says = says; answer = answer }
 
--- an event came between those of the simulator
+-- an event came between the events of the simulator
 abbrev pub with_between : Happened → LoopAt → LoopAt
 with_between h l = record l { turns = Between h ∷ l.turns }
 
@@ -84,18 +84,18 @@ ComesBetween l e next =
 abbrev pub noise_stamp : Raw
 noise_stamp = record { rising = 1; falling = 1; tag = 0 }
 
--- what comes of a datagram of this fate
+-- what follows from a datagram with this fate
 abbrev pub FollowsFate : Way → ArrayVec ℕ → LoopAt → Fate → Going → Type 0
 FollowsFate way frame l (Handed i) next = ComesBetween l (Deliver i) next
 FollowsFate way frame l Forged next = next ≡ On (record l { forged = l.forged + 1 })
 FollowsFate way frame l Noisy next = ComesBetween l (Noise way.to.node way.to.port frame noise_stamp) next
 
--- what comes of one that came this way
+-- what follows from a datagram that came this way
 abbrev pub Handles : Plan → Way → ArrayVec ℕ → LoopAt → Going → Type 0
 Handles x way frame l next =
     (fate : Fate) × IsFate x.setting (events_at l) way frame.items fate × FollowsFate way frame l fate next
 
--- and of those that are taken at an arrival, in the order in which they came
+-- and from the datagrams that are taken at an arrival, in the order in which they came
 abbrev pub HandlesAll : Plan → Way → List (ArrayVec ℕ) → Going → Going → Type 0
 HandlesAll x way [] now last = last ≡ now
 HandlesAll x way (frame ∷ got) (Full l) last = last ≡ Full l
@@ -104,17 +104,17 @@ HandlesAll x way (frame ∷ got) (On l) last =
 
 -- One event of the simulator
 
--- it gives this event, and so much has been drawn and done then
+-- it gives this event, and after it so much has been drawn and done
 abbrev pub GivesNext : Plan → LoopAt → Event → SimAt → Type 0
 GivesNext x l e new = GivesEvent x.scene x.setting (world_at x l) l.at e new
 
--- an event that is no arrival, and hands no frame over
+-- an event that is not an arrival and hands no frame over
 abbrev pub IsPlain : Event → Type 0
 IsPlain (Arrive i raw) = ⊥
 IsPlain (Deliver i) = ⊥
 IsPlain _ = Unit {0}
 
--- an event by which the simulator hands a frame over has no number, since it is left out
+-- an event by which the simulator hands a frame over has no number, because it is left out
 abbrev pub IsCounted : Event → Type 0
 IsCounted (Deliver i) = ⊥
 IsCounted _ = Unit {0}
@@ -126,7 +126,7 @@ with_event h new l = record { turns = Comes h ∷ l.turns; at = new; forged = l.
 abbrev pub without_frame : ℕ → SimAt → LoopAt → LoopAt
 without_frame i new l = record { turns = LeftOut i ∷ l.turns; at = new; forged = l.forged }
 
--- one that is no arrival and hands no frame over comes
+-- an event that is not an arrival and hands no frame over comes
 pub record PlainComes (x : Plan) (l : LoopAt) (next : Going) : Type 0 where
   pub newest : Happened
   pub new : SimAt
@@ -135,14 +135,14 @@ pub record PlainComes (x : Plan) (l : LoopAt) (next : Going) : Type 0 where
   pub room : HasRoom l
   pub leads : next ≡ On (with_event newest new l)
 
--- one that hands a frame over is left out
+-- an event that hands a frame over is left out
 pub record FrameLeftOut (x : Plan) (l : LoopAt) (next : Going) : Type 0 where
   pub number : ℕ
   pub new : SimAt
   pub gives : GivesNext x l (Deliver number) new
   pub leads : next ≡ On (without_frame number new l)
 
--- a frame of this number arrives by this way, and has these octets
+-- a frame with this number arrives by this way, and has these octets
 pub record FrameArrives (x : Plan) (l : LoopAt) (number : ℕ) (way : Way) (octets : List ℕ) : Type 0 where
   pub raw : Raw
   pub new : SimAt
@@ -152,7 +152,8 @@ pub record FrameArrives (x : Plan) (l : LoopAt) (number : ℕ) (way : Way) (octe
   pub is : (world_at x l).frame number ≡ Some frame
   pub way_is : IsWayOf x.setting frame way octets
 
--- a frame arrives; its octets are sent at the end that sent it, datagrams are taken at the other end, and then these are handled
+-- a frame arrives; its octets are sent at the end that sent it, datagrams are taken at the other end, and then
+-- these datagrams are handled
 pub record FrameCarried (x : Plan) (l : LoopAt) (calls : List LinkCall) (next : Going) : Type 0 where
   pub number : ℕ
   pub way : Way
@@ -179,7 +180,8 @@ IsRound x l Carried calls next = FrameCarried x l calls next
 
 -- All of them
 
--- one of these rounds, which made the first of these calls, and what goes on from where it led
+-- the first of these rounds made the first of these calls, and the other rounds go on from where it
+-- led
 abbrev pub Goes : Plan → Going → List Round → List LinkCall → Going → Type 0
 Goes x now [] calls last = (calls ≡ []) × (last ≡ now)
 Goes x (Full l) (r ∷ rounds) calls last = ⊥
@@ -187,7 +189,7 @@ Goes x (On l) (r ∷ rounds) calls last =
     (next : Going) × (made : List LinkCall) × (later : List LinkCall) × IsRound x l r made next
     × (calls ≡ made ++ later) × Goes x next rounds later last
 
--- a loop, from its start, of which a link told these calls; octets are read as they say
+-- a loop, from its start, whose link showed these calls; octets are read as they say
 pub record Loops (x : Plan) (calls : List LinkCall) (last : Going) : Type 0 where
   pub rounds : List Round
   pub later : List LinkCall

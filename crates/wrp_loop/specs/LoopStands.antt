@@ -1,4 +1,4 @@
--- What the code of a loop stands for as it goes on (this project's profile).
+-- What the code of a loop stands for as the loop goes on (this project's profile).
 use Rattle.std.specs.Prelude.{◌≡◌, ◌<◌, ◌≤◌, ℕ, ℤ, Bool, true, false, Option, None, Some, List, ◌∷◌, ◌++◌, length, Result}
 use Rattle.std.specs.List.{AllByRecursion, concat, flat_map}
 use Rattle.arrayvec.specs.ArrayVec.{ArrayVec}
@@ -35,7 +35,8 @@ use Rattle.wrp_loop.specs.LoopText.{loop_text, marked_line, step_lines}
 
 -- Events
 
--- an event that the world can take: in some state that it stands for the event keeps all premises
+-- an event that the world can take: in some state that the world stands for, the event keeps all
+-- premises
 pub record CanHappen {F : Type 0} (post : F → ℤ → ℤ → Type 0) (world : WorldOf F) (e : Event) : Type 0 where
   pub setting : Setting
   pub state : WorldAt
@@ -60,17 +61,17 @@ pub record Happens {F : Type 0} (post : F → ℤ → ℤ → Type 0) (e : Event
 
 -- The code's parts
 
--- it can take an event: its world is one that its calls made
+-- it can take an event: its world was made by calls of the world
 abbrev pub CanLoop : {F : Type 0} → (F → ℤ → Type 0) → (F → ℤ → ℤ → Type 0) → LoopedNetwork F → Type 0
 CanLoop pre post network = IsValid pre post network.world
 
--- what makes the events of this network, which are counted
+-- what makes the events of this network, with the count of these events
 pub record FitsCourse {F : Type 0} (network : LoopedNetwork F) (course : LoopCourse) : Type 0 where
   pub sim : FitsSim network.world.plant.net.cfg course.sim
   pub count : network.world.plant.events ≡ course.events
   pub below : course.events < event_limit
 
--- a loop has come so far, but for what makes its next events
+-- a loop has come this far; what makes its next events is not part of this
 pub record HasLooped {F : Type 0} (post : F → ℤ → ℤ → Type 0) (x : Plan) (network : LoopedNetwork F)
     (course : LoopCourse) (l : LoopAt) : Type 0 where
   pub net : IsNetwork x.setting
@@ -82,7 +83,7 @@ pub record HasLooped {F : Type 0} (post : F → ℤ → ℤ → Type 0) (x : Pla
   pub forged : course.forged ≡ l.forged
   pub index : IsIndex x.setting (events_at l) course.index.came.items course.index.handed.items
 
--- and that stands for what has been drawn and done
+-- and what makes its next events stands for what has been drawn and done
 pub record SimOf (x : Plan) (course : LoopCourse) (at : SimAt) : Type 0 where
   pub is : SimIs at course.sim
   pub scene : course.sim.scene ≡ x.scene
@@ -90,7 +91,7 @@ pub record SimOf (x : Plan) (course : LoopCourse) (at : SimAt) : Type 0 where
 abbrev pub StandsAt : {F : Type 0} → (F → ℤ → ℤ → Type 0) → Plan → LoopedNetwork F → LoopCourse → LoopAt → Type 0
 StandsAt post x network course l = HasLooped post x network course l × SimOf x course l.at
 
--- some loop has
+-- some loop has come this far
 abbrev pub IsInLoop : {F : Type 0} → (F → ℤ → ℤ → Type 0) → LoopedNetwork F → LoopCourse → Type 0
 IsInLoop post network course = (x : Plan) × (l : LoopAt) × StandsAt post x network course l
 
@@ -127,7 +128,8 @@ SomeFlies post world i =
 abbrev pub port_of_route : Route → End
 port_of_route route = record { node = route.node; port = route.port }
 
--- a route is that of a frame: the numbers of the ends, the port that the frame comes to, and the peer of that port
+-- a route is the route of a frame: the numbers of the ends, the port that the frame comes to, and the peer of that
+-- port
 pub record IsRouteOf (s : Setting) (f : FrameAt) (route : Route) : Type 0 where
   pub from_is : route.from ≡ end_number f.link f.by
   pub to_is : route.to ≡ end_number f.link (other_of f.by)
@@ -142,7 +144,7 @@ RoutesFrame s f (Some route) = IsRouteOf s f route
 abbrev pub way_by : FrameAt → Route → Way
 way_by f route = record { link = f.link; by = f.by; to = port_of_route route }
 
--- the calls that were made for a frame, whose route this is
+-- the calls that were made for a frame with this route
 pub record Exchanged (s : Setting) (f : FrameAt) (route : Route) (got : List (ArrayVec ℕ)) (before told : Option (List LinkCall))
     : Type 0 where
   pub routes : IsRouteOf s f route
@@ -151,7 +153,7 @@ pub record Exchanged (s : Setting) (f : FrameAt) (route : Route) (got : List (Ar
       (arrival_calls (end_number f.link f.by) (end_number f.link (other_of f.by)) (octets_of f.sending.message) got)
   pub frames : AllByRecursion IsFrame got
 
--- and those that were cut off by one that failed
+-- and the calls that were cut off by one that failed
 pub record CutOff (f : FrameAt) (before told : Option (List LinkCall)) : Type 0 where
   pub calls : List LinkCall
   pub adds : Grew before told calls
@@ -159,7 +161,7 @@ pub record CutOff (f : FrameAt) (before told : Option (List LinkCall)) : Type 0 
       AreCutCalls (end_number f.link f.by) (end_number f.link (other_of f.by)) (octets_of f.sending.message) calls
   pub frames : AllByRecursion IsFrameCall calls
 
--- whichever frame it is that a world has on its fibre under this number
+-- whichever frame the world has on its fibre under this number
 abbrev pub ExchangedBy : {F : Type 0} → (F → ℤ → ℤ → Type 0) → WorldOf F → ℕ → Route → List (ArrayVec ℕ)
     → (before told : Option (List LinkCall)) → Type 0
 ExchangedBy post world number route got before told =
@@ -173,7 +175,8 @@ CutOffBy post world number before told =
 
 -- Datagrams
 
--- a loop has come to where datagrams are handled that came this way, by this route, over a link that has its carrier
+-- a loop has come to a point where it handles datagrams that came this way, by this route, over a link that has its
+-- carrier
 pub record Carries {F : Type 0} (post : F → ℤ → ℤ → Type 0) (x : Plan) (network : LoopedNetwork F) (course : LoopCourse)
     (l : LoopAt) (way : Way) (route : Route) : Type 0 where
   pub at : StandsAt post x network course l
@@ -187,12 +190,12 @@ abbrev pub IsCarried : {F : Type 0} → (F → ℤ → ℤ → Type 0) → Loope
 IsCarried post network course route =
     (x : Plan) × (l : LoopAt) × (way : Way) × Carries post x network course l way route
 
--- a loop goes on from here, or is over here since the next number is too great
+-- a loop goes on from here, or is over here because the next number is too great
 abbrev pub going : Bool → LoopAt → Going
 going true l = On l
 going false l = Full l
 
--- a frame may be handed over: it is such a one as a datagram that came this way may be
+-- a frame may be handed over: a datagram that came this way may be this frame
 abbrev pub CanDeliver : {F : Type 0} → (F → ℤ → ℤ → Type 0) → LoopedNetwork F → LoopCourse → Route → ℕ → Type 0
 CanDeliver post network course route number =
     (x : Plan) × (l : LoopAt) × (way : Way) × (octets : List ℕ) × Carries post x network course l way route
@@ -220,7 +223,7 @@ pub record HandledOne {F : Type 0} (post : F → ℤ → ℤ → Type 0) (x : Pl
   pub handles : Handles x way frame l (going goes now)
   pub grows : Grows x l now old new
 
--- and all
+-- and all of them were handled
 pub record HandledAll {F : Type 0} (post : F → ℤ → ℤ → Type 0) (x : Plan) (network : LoopedNetwork F) (course : LoopCourse)
     (l : LoopAt) (way : Way) (route : Route) (got : List (ArrayVec ℕ)) (goes : Bool) (old new : List ℕ) : Type 0 where
   pub now : LoopAt
@@ -233,7 +236,7 @@ pub record HandledAll {F : Type 0} (post : F → ℤ → ℤ → Type 0) (x : Pl
 abbrev pub IsArrivalOf : ℕ → Event → Type 0
 IsArrivalOf number e = (raw : Raw) × (e ≡ Arrive number raw)
 
--- the simulator gave the arrival of a frame, whose route this is
+-- the simulator gave the arrival of a frame with this route
 pub record NextArrives {F : Type 0} (post : F → ℤ → ℤ → Type 0) (x : Plan) (network : LoopedNetwork F)
     (course : LoopCourse) (l : LoopAt) (e : Event) (number : ℕ) (f : FrameAt) (route : Route) : Type 0 where
   pub next : HasNext post x network course l e
@@ -276,7 +279,7 @@ pub record ArrivalCalls (x : Plan) (l : LoopAt) (calls : List LinkCall) : Type 0
   pub few : length got ≤ 16
   pub are : calls ≡ arrival_calls (sending_end way) (receiving_end way) octets got
 
--- an arrival came to nothing, since a call failed
+-- an arrival came to nothing, because a call failed
 pub record ArrivalFails (x : Plan) (l : LoopAt) (before told : Option (List LinkCall)) : Type 0 where
   pub number : ℕ
   pub way : Way
@@ -287,7 +290,7 @@ pub record ArrivalFails (x : Plan) (l : LoopAt) (before told : Option (List Link
   pub cut : AreCutCalls (sending_end way) (receiving_end way) octets calls
   pub frames : AllByRecursion IsFrameCall calls
 
--- an event that is no arrival came
+-- an event that is not an arrival came
 pub record CamePlain {F : Type 0} (post : F → ℤ → ℤ → Type 0) (x : Plan) (network : LoopedNetwork F) (course : LoopCourse)
     (l : LoopAt) (old new : List ℕ) : Type 0 where
   pub now : LoopAt

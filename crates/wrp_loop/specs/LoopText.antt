@@ -1,4 +1,5 @@
--- The lines that a loop prints, and those that an audit of its events prints (this project's profile).
+-- The lines that a loop prints, and the lines that an audit of its events prints (this project's
+-- profile).
 use Rattle.std.specs.Prelude.{◌≡◌, ℕ, ◌==◌, ◌&&◌, not, Bool, false, if◌then◌else◌, List, [], ◌∷◌, ◌++◌, filter, map, Option, None, Some, codes}
 use Rattle.std.specs.Fmt.{decimal}
 use Rattle.std.specs.List.{AllByRecursion, concat, filter_map, flat_map}
@@ -14,24 +15,24 @@ use Rattle.wrp_trace.specs.EventPrinting.{event_text}
 
 -- Lines, each with its LF, which is octet 10
 
--- the line of an event, and the same behind `= `
+-- the line of an event, and the same after `= `
 abbrev pub event_line : NetCfg → Event → List ℕ
 event_line cfg e = event_text cfg e ++ 10 ∷ []
 
 abbrev pub marked_line : NetCfg → Event → List ℕ
 marked_line cfg e = 61 ∷ (32 ∷ event_line cfg e)
 
--- those of what a node put out in an event that left this world: its tick count there, and how far its clock is there from true
--- time
+-- the lines of what a node put out in an event that led to this world: its tick count there, and how far its clock
+-- is there from true time
 abbrev pub step_lines : Setting → WorldAt → NodeStepAt → List (List ℕ)
 step_lines s w step =
     map (λ o. output_line s.cfg step.node (w.node step.node).ticks o (Some (w.clock step.node).off)) step.outs
 
--- those of all steps of the newest event
+-- the lines of all steps of the newest event
 abbrev pub steps_lines : Setting → List Happened → Happened → List (List ℕ)
 steps_lines s before h = flat_map (step_lines s (world_after s (h ∷ before))) (steps_at s before h)
 
--- Of a loop: each event, and then its steps
+-- For a loop: each event, and then its steps
 
 abbrev pub loop_lines : Setting → List Happened → List (List ℕ)
 loop_lines s [] = []
@@ -40,15 +41,15 @@ loop_lines s (h ∷ before) = loop_lines s before ++ (marked_line s.cfg h.event 
 abbrev pub loop_text : Setting → List Happened → List ℕ
 loop_text s events = concat (loop_lines s events)
 
--- the last line: how many datagrams were forged, where any was
+-- the last line: how many datagrams were forged, if any was
 abbrev pub forged_lines : ℕ → List (List ℕ)
 forged_lines count = if count == 0 then [] else line_of (codes "forged" ∷ decimal count ∷ []) ∷ []
 
--- all lines, where these are the lines of counters
+-- all lines, if these are the lines of counters
 abbrev pub all_lines : Setting → List Happened → (counts : List (List ℕ)) → (forged : ℕ) → List (List ℕ)
 all_lines s events counts forged = (loop_lines s events ++ counts) ++ forged_lines forged
 
--- Of the same events, as they are given to an audit, and as it writes their steps
+-- For the same events: the lines given to an audit, and the lines it writes for their steps
 
 abbrev pub told_lines : Setting → List Happened → List (List ℕ)
 told_lines s [] = []
@@ -58,7 +59,8 @@ abbrev pub audit_lines : Setting → List Happened → List (List ℕ)
 audit_lines s [] = []
 audit_lines s (h ∷ before) = audit_lines s before ++ steps_lines s before h
 
--- What a reader of the text does: those behind `= `, without it, and the others
+-- What a reader of the text does: it takes the lines after `= `, without that mark, and the other
+-- lines
 
 abbrev pub is_marked : List ℕ → Bool
 is_marked (a ∷ (b ∷ rest)) = (a == 61) && (b == 32)

@@ -1,6 +1,7 @@
--- What a network writes that runs over a link, behind its scenario: the calls of the link, with what they answered, tell its
--- events. Each stands in a line behind `= `, and then the lines of what its steps put out, of all kinds; at the end stand the
--- counters that are not 0, and how many datagrams were forged, where any was (this project's profile).
+-- What a network that runs over a link writes after its scenario: the calls of the link, with what they answered,
+-- determine its events. Each event is a line after `= `, and then come the lines of what its steps put out, of all
+-- kinds; at the end come the counters that are not 0, and how many datagrams were forged, if any was (this
+-- project's profile).
 use Rattle.std.specs.Prelude.{◌≡◌, ◌⊎◌, ℕ, List, [], ◌++◌}
 use Rattle.std.specs.List.{AllByRecursion, concat}
 use Rattle.wrp_course.specs.Run.{IsAnswered, world_after}
@@ -32,7 +33,8 @@ plan_of s scene seed = record { setting = s; scene = scene; seed = seed }
 abbrev pub IsLawful : Setting → LoopAt → Type 0
 IsLawful s l = IsAnswered (answers_in s) s (world_after s (events_at l))
 
--- a loop by the scenario that the lines say, of which a link told these calls, ended so; each datagram that they gave is a frame
+-- a loop by the scenario that the lines say, whose link showed these calls, ended in this way; each datagram that
+-- the calls gave is a frame
 pub record LoopEnded (s : Setting) (seed : ℕ) (lines : List (List ℕ)) (calls : List LinkCall) (ending : Ending)
     : Type 0 where
   pub scene : SceneAt
@@ -42,12 +44,13 @@ pub record LoopEnded (s : Setting) (seed : ℕ) (lines : List (List ℕ)) (calls
   pub frames : AllByRecursion IsFrameCall calls
   pub answered : IsLawful s (place last)
 
--- of a loop that came to here these are the calls; and, where it goes on, those of the arrival that came next, if they were made
+-- these are the calls of a loop that came to here; if the loop goes on, also the calls of the arrival that came
+-- next, if they were made
 abbrev pub IsShort : Plan → List LinkCall → Going → Type 0
 IsShort x calls (On l) = ComesShort x calls l
 IsShort x calls (Full l) = Loops x calls (Full l)
 
--- one came to here, and then memory lacked
+-- a loop came to here, and then memory ran out
 pub record LoopShort (s : Setting) (seed : ℕ) (lines : List (List ℕ)) (calls : List LinkCall) : Type 0 where
   pub scene : SceneAt
   pub said : IsScenario s lines scene
@@ -56,7 +59,8 @@ pub record LoopShort (s : Setting) (seed : ℕ) (lines : List (List ℕ)) (calls
   pub frames : AllByRecursion IsFrameCall calls
   pub answered : IsLawful s (place last)
 
--- one came to here, and then a call of the arrival that came next failed: the last of these calls are those before it
+-- a loop came to here, and then a call of the arrival that came next failed: the last of these calls are the calls
+-- before the failed one
 pub record LoopFailed (s : Setting) (seed : ℕ) (lines : List (List ℕ)) (calls : List LinkCall) : Type 0 where
   pub scene : SceneAt
   pub said : IsScenario s lines scene
@@ -65,21 +69,21 @@ pub record LoopFailed (s : Setting) (seed : ℕ) (lines : List (List ℕ)) (call
   pub frames : AllByRecursion IsFrameCall calls
   pub answered : IsLawful s at
 
--- What stands behind a scenario
+-- What is written after a scenario
 
--- the counters that are not 0, and how many datagrams were forged, where any was
+-- the counters that are not 0, and how many datagrams were forged, if any was
 abbrev pub closing_lines : Setting → LoopAt → List ℕ
 closing_lines s l = all_counts s (world_after s (events_at l)) ++ concat (forged_lines l.forged)
 
--- no event comes any more: the lines of all events stand, and then those that close them
+-- no event comes any more: the lines of all events are written, and then those that close them
 abbrev pub LoopCloses : Setting → ℕ → List LinkCall → List (List ℕ) → List ℕ → Type 0
 LoopCloses s seed calls lines last =
     (loop : LoopEnded s seed lines calls Over)
     × (last ≡ loop_text s (events_at (place loop.last)) ++ closing_lines s (place loop.last))
 
--- or the next event has too great a number, and the line that names it stands behind those of all before it; or memory lacks, and the
--- lines of the first events stand; or a call of the link fails: its start, and nothing stands, or one at an arrival, and the
--- lines of all events before it stand
+-- either the next event has too great a number, and the line that names it follows the lines of all events before
+-- it; or memory runs out, and the lines of the first events are written; or a call of the link fails: if this is
+-- its start, nothing is written, and if it is a call at an arrival, the lines of all events before that are written
 abbrev pub LoopBreaks : Setting → ℕ → List LinkCall → List (List ℕ) → Status → List ℕ → Type 0
 LoopBreaks s seed calls lines TooLarge last =
     (loop : LoopEnded s seed lines calls Large)
@@ -91,7 +95,7 @@ LoopBreaks s seed calls lines LinkFault last =
     ⊎ ((loop : LoopFailed s seed lines calls) × (last ≡ loop_text s (events_at loop.at)))
 LoopBreaks s seed calls lines _ last = ⊥
 
--- what the record lines mean where a link told these calls
+-- what the record lines mean if a link showed these calls
 abbrev pub loop_of : Setting → ℕ → List LinkCall → LineMeaning
 loop_of s seed calls = record {
   accepts = SimAccepts s;

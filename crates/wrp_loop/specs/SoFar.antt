@@ -1,5 +1,5 @@
--- How far a loop has come, round by round, as its caller has it: the calls that the link told since its start, and the text of
--- the events; and how it ends (this project's profile).
+-- How far a loop has come, round by round, as its caller sees it: the calls that the link showed since its start,
+-- and the text of the events; and how it ends (this project's profile).
 use Rattle.std.specs.Prelude.{◌≡◌, ◌⊎◌, ◌≤◌, ◌<◌, ◌+◌, ◌*◌, ◌-◌, ◌^◌, ℕ, ℤ, Bool, true, false, Option, None, List, [], ◌++◌, length, Result, Ok, Err}
 use Rattle.std.specs.List.{AllByRecursion}
 use Rattle.wrp_io.specs.declared.link.LinkCall.{LinkCall}
@@ -39,8 +39,8 @@ pub record Begins {F : Type 0} (post : F → ℤ → ℤ → Type 0) (x : Plan) 
   pub came : course.index.came.items ≡ []
   pub handed : course.index.handed.items ≡ []
 
--- a round can come: the world is one that its calls made, the course is one of its network, no event was followed by more than
--- sixteen forged datagrams, and some loop came to here
+-- a round can come: the world was made by calls of the world, the course belongs to its network, no event was
+-- followed by more than sixteen forged datagrams, and some loop came to here
 pub record IsReady {F : Type 0} (pre : F → ℤ → Type 0) (post : F → ℤ → ℤ → Type 0) (network : LoopedNetwork F)
     (course : LoopCourse) : Type 0 where
   pub valid : CanLoop pre post network
@@ -48,14 +48,15 @@ pub record IsReady {F : Type 0} (pre : F → ℤ → Type 0) (post : F → ℤ �
   pub few : course.forged ≤ 16 * course.events
   pub loop : IsInLoop post network course
 
--- how many rounds can still come at most: each has an event that is counted, or hands a frame over, which the simulator does
--- twice at most behind an event
+-- the most rounds that can still come: each has an event that is counted, or hands a frame over, which the
+-- simulator does at most twice after an event
 abbrev pub rounds_left : LoopCourse → ℕ
 rounds_left course = 3 * (2 ^ 32 - course.events) + course.sim.arrived.times
 
 -- What a caller has
 
--- a loop came so far: the link told these calls since its start, and this is the text of its events
+-- a loop came so far: the link showed these calls since its start, and this is the text of its
+-- events
 pub record CameSoFar {F : Type 0} (post : F → ℤ → ℤ → Type 0) (x : Plan) (network : LoopedNetwork F) (course : LoopCourse)
     (before told : Option (List LinkCall)) (text : List ℕ) : Type 0 where
   pub at : LoopAt
@@ -66,7 +67,8 @@ pub record CameSoFar {F : Type 0} (post : F → ℤ → ℤ → Type 0) (x : Pla
   pub loops : Loops x calls (On at)
   pub is : text ≡ loop_text x.setting (events_at at)
 
--- a loop ended so, and this is the text of its events; the world and the counts are those behind the last of them
+-- a loop ended in this way, and this is the text of its events; the world and the counts are those after the last
+-- event
 pub record EndedSo {F : Type 0} (post : F → ℤ → ℤ → Type 0) (Ends : Plan → List LinkCall → Going → Type 0) (x : Plan)
     (network : LoopedNetwork F) (course : LoopCourse) (before told : Option (List LinkCall)) (text : List ℕ) : Type 0 where
   pub last : Going
@@ -86,7 +88,7 @@ pub record FailedSo (x : Plan) (before told : Option (List LinkCall)) (text : Li
   pub frames : AllByRecursion IsFrameCall calls
   pub failed : LinkFailed x calls text
 
--- a loop came so far, and then memory lacked in a round: before its calls, or behind them
+-- a loop came so far, and then memory ran out in a round: before its calls, or after them
 pub record ComesShort (x : Plan) (calls : List LinkCall) (l : LoopAt) : Type 0 where
   pub before : List LinkCall
   pub made : List LinkCall
@@ -94,7 +96,7 @@ pub record ComesShort (x : Plan) (calls : List LinkCall) (l : LoopAt) : Type 0 w
   pub loops : Loops x before (On l)
   pub which : (made ≡ []) ⊎ ArrivalCalls x l made
 
--- memory lacked: at the start, or behind a loop whose events have this text
+-- memory ran out: at the start, or after a loop whose events have this text
 abbrev pub StoppedShort : Plan → List LinkCall → List ℕ → Type 0
 StoppedShort x calls text =
     ((calls ≡ []) × (text ≡ []))
@@ -115,8 +117,9 @@ Starts post x network course before told (Ok done) = CameSoFar post x network co
 Starts post x network course before told (Err faults.Failed) = FailedSo x before told []
 Starts post x network course before told (Err faults.Memory) = StoppedSo x before told []
 
--- what became of a round, behind a loop whose text so far is what was written and then what waits: it goes on or ended with the
--- lines that wait now, or it goes no further, and its text is as it was; where memory lacked, what waits now is of no use
+-- what became of a round, after a loop whose text so far is what was written and then what waits: the loop goes on
+-- or ended with the lines that wait now, or it goes no further and its text is as it was; if memory ran out, what
+-- waits now is of no use
 abbrev pub Leads : {F : Type 0} → (F → ℤ → ℤ → Type 0) → Plan → LoopedNetwork F → LoopCourse
     → (before told : Option (List LinkCall)) → (written waits now : List ℕ) → Result Rounded LoopFault → Type 0
 Leads post x network course before told written waits now (Ok rounded.GoesOn) =
@@ -141,7 +144,7 @@ pub record RoundStays {F : Type 0} (post : F → ℤ → ℤ → Type 0) (x : Pl
   pub calls : told ≡ before
   pub text : new ≡ old
 
--- memory lacked in a round, before its calls or behind them
+-- memory ran out in a round, before its calls or after them
 pub record RoundLacks (x : Plan) (l : LoopAt) (before told : Option (List LinkCall)) : Type 0 where
   pub calls : List LinkCall
   pub adds : Grew before told calls
@@ -156,7 +159,7 @@ Arrivals post x network course l before told old new (Ok goes) =
 Arrivals post x network course l before told old new (Err faults.Failed) = (new ≡ old) × ArrivalFails x l before told
 Arrivals post x network course l before told old new (Err faults.Memory) = RoundLacks x l before told
 
--- what became of a round behind a loop that came to here
+-- what became of a round, after a loop that came to here
 abbrev pub Rounds : {F : Type 0} → (F → ℤ → ℤ → Type 0) → Plan → LoopedNetwork F → LoopCourse → LoopAt
     → (before told : Option (List LinkCall)) → (old new : List ℕ) → Result Rounded LoopFault → Type 0
 Rounds post x network course l before told old new (Ok rounded.GoesOn) =

@@ -10,7 +10,7 @@ use arrayvec::ArrayVec;
 use wrp_base::Frame;
 use wrp_io::{Failed, Link};
 
-// How many datagrams are taken at most at one arrival.
+// The most datagrams that are taken at one arrival.
 const MOST_TAKEN: usize = 16;
 
 /// The datagrams that were taken at one arrival.
@@ -23,7 +23,7 @@ fn are_octets(octets: &[u8])
     let _count = octets.len();
 }
 
-// Those of a frame are, and a frame has room for 256.
+// The octets of a frame are below 256, and a frame has room for 256 octets.
 fn frame_fits(frame: &Frame)
     ensures { IsFrame frame.now }
 {
@@ -54,9 +54,9 @@ fn take_all<N: Link>(link: &mut N, to: u32) -> Result<Taken, Failed>
     Ok(got)
 }
 
-/// Sends a frame's octets from an end, and takes what then waits at the other. At most 16 frames
-/// are taken. `Failed` where a call of the link failed: its count of faults rose, and the calls
-/// before that one were answered.
+/// Sends a frame's octets from an end, and takes what then waits at the other end. At most 16
+/// frames are taken. `Failed` if a call of the link failed: its count of faults rose, and the calls
+/// before the failed one were answered.
 pub fn exchange<N: Link>(link: &mut N, from: u32, to: u32, octets: &[u8]) -> Result<Taken, Failed>
     requires { length octets.now ≤ 256 }
     ensures most { IfOk result (λ got. length got.items ≤ 16) }

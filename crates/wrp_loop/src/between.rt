@@ -1,4 +1,4 @@
-//! Events between those of the simulator, which come of datagrams.
+//! Events between the events of the simulator, which follow from datagrams.
 ghost use Rattle.std.specs.Prelude.{◌≡◌, ◌≤◌, ℕ, List, IfOk, OnOk};
 ghost use Rattle.wrp_course.specs.declared.event.Event.TheVariants.{Deliver, Noise};
 ghost use Rattle.wrp_loop.specs.Datagrams.{IsOfPeer, IsSuch, Way};
@@ -14,8 +14,8 @@ use wrp_scene::LAST_EVENT;
 use wrp_world::Event;
 
 /// A frame that has arrived is handed over, unless its event has too great a number. Answers
-/// whether the loop goes on. `AllocError` where there is no memory: then nothing is known of
-/// `text`, nor how far the event came, and the loop ends.
+/// whether the loop goes on. `AllocError` if memory runs out: then nothing is known of `text`, nor
+/// of how far the event came, and the loop ends.
 pub fn deliver<F: Fn(i64) -> i64>(
     alloc: Global,
     network: &mut LoopedNetwork<F>,
@@ -58,7 +58,7 @@ fn copied(frame: &Frame) -> Frame
     copy
 }
 
-// The noise that octets are which no port sent: both counters are 1, and the tag is 0.
+// The noise for octets that no port sent: both counters are 1, and the tag is 0.
 fn noise_of(route: Route, frame: &Frame) -> Event
     ensures { result ≡ Noise route.node route.port frame.now noise_stamp }
 {
@@ -74,9 +74,9 @@ fn noise_of(route: Route, frame: &Frame) -> Event
     }
 }
 
-/// Octets come at the end of a route that its peer did not send, unless their event has too great a
-/// number. Answers whether the loop goes on. `AllocError` where there is no memory: then nothing is
-/// known of `text`, nor how far the event came, and the loop ends.
+/// Octets that its peer did not send come at the end of a route, unless their event has too great a
+/// number. Answers whether the loop goes on. `AllocError` if memory runs out: then nothing is known
+/// of `text`, nor of how far the event came, and the loop ends.
 pub fn sound<F: Fn(i64) -> i64>(
     alloc: Global,
     network: &mut LoopedNetwork<F>,

@@ -55,9 +55,9 @@ fn arrive<F: Fn(i64) -> i64>(
 }
 
 /// The frame that comes next goes over the link and arrives, and the datagrams that were taken for
-/// it are handled. Answers whether the loop goes on. The calls of the link come first: `Failed`
-/// where one fails, and then no event came and `text` is as it was. `Memory` where there is no
-/// memory: then the loop ends, and what `text` got is of no use.
+/// it are handled. Answers whether the loop goes on. The calls of the link come first: `Failed` if
+/// one fails, and then no event came and `text` is as it was. `Memory` if memory runs out: then the
+/// loop ends, and what was appended to `text` is of no use.
 pub fn carry<F: Fn(i64) -> i64, N: Link>(
     alloc: Global,
     network: &mut LoopedNetwork<F>,

@@ -9,7 +9,7 @@ use crate::routes::{Route, route_of};
 use wrp_io::{Failed, Link};
 use wrp_world::World;
 
-/// The way of a frame, and the datagrams that were taken where it arrives.
+/// The way of a frame, and the datagrams that were taken at the end where it arrives.
 #[derive(Drop)]
 pub struct Crossing {
     /// Its way.
@@ -18,9 +18,9 @@ pub struct Crossing {
     pub got: Taken,
 }
 
-/// Sends the octets of a frame that is on its fibre as a datagram, and takes what then waits where
-/// it arrives. `Failed` where a call of the link failed: its count of faults rose, and the calls
-/// before that one were answered.
+/// Sends the octets of a frame that is on its fibre as a datagram, and takes what then waits at the
+/// end where the frame arrives. `Failed` if a call of the link failed: its count of faults rose,
+/// and the calls before the failed one were answered.
 pub fn cross<F: Fn(i64) -> i64, N: Link>(
     world: &World<F>,
     link: &mut N,

@@ -48,8 +48,8 @@ fn handle<F: Fn(i64) -> i64>(
 }
 
 /// Handles datagrams that came by a route, up to the first whose event has too great a number.
-/// Answers whether the loop goes on. `AllocError` where there is no memory: then nothing is known
-/// of `text`, nor how many datagrams were handled, and the loop ends.
+/// Answers whether the loop goes on. `AllocError` if memory runs out: then nothing is known of
+/// `text`, nor of how many datagrams were handled, and the loop ends.
 pub fn handle_all<F: Fn(i64) -> i64>(
     alloc: Global,
     network: &mut LoopedNetwork<F>,

@@ -15,13 +15,13 @@ use wrp_frame::decode;
 pub enum Fate {
     /// It is this frame, which is handed over.
     Handed(u32),
-    /// It says a message of the peer, and is no frame of the peer.
+    /// It says a message of the peer, and is not a frame of the peer.
     Forged,
     /// It is neither.
     Noisy,
 }
 
-// Whether two ports are one.
+// Whether two ports are the same.
 fn is_same_port(a: PortIdentity, b: PortIdentity) -> bool
     ensures { result ≡ is_port a b }
 {
@@ -38,9 +38,10 @@ fn is_by(port: PortIdentity, octets: &[u8]) -> bool
     }
 }
 
-/// What becomes of a datagram with these octets that came by this route: it is the least numbered frame of
-/// that way with these octets that has arrived, is young and was not handed over yet, or else the greatest;
-/// or it is forged, where it says a message of the peer; or it is noise.
+/// What becomes of a datagram with these octets that came by this route. It may be a frame of that way with
+/// these octets that has arrived and is young: the least numbered one that was not handed over yet, or, if
+/// there is none, the greatest. Otherwise it is forged if it says a message of the peer, and noise if it
+/// does not.
 pub fn fate_of<F: Fn(i64) -> i64>(
     network: &LoopedNetwork<F>,
     course: &LoopCourse,

@@ -17,13 +17,13 @@ pub struct Came {
     pub from: u32,
 }
 
-/// The frames that arrived, and those of them that were handed over. Of both some that are no more young
-/// may be forgotten.
+/// The frames that arrived, and those of them that were handed over. In both lists, some frames that are
+/// no longer young may have been forgotten.
 #[derive(Drop)]
 pub struct Index {
-    /// Those that arrived.
+    /// The frames that arrived.
     pub came: Vec<Came>,
-    /// Those that were handed over.
+    /// The frames that were handed over.
     pub handed: Vec<Came>,
 }
 
@@ -45,7 +45,7 @@ impl Choice {
         }
     }
 
-    // One frame more.
+    // With one more frame.
     fn with(self, fits: bool, handed: bool, number: u32) -> Choice
         ensures { result ≡ with_frame fits handed number self }
     {
@@ -77,7 +77,7 @@ impl Choice {
     }
 }
 
-// The lesser of two numbers, of which the first may be missing.
+// The lesser of two numbers, the first of which may be missing.
 fn lesser(found: Option<u32>, number: u32) -> u32
     ensures { result ≡ lesser found number }
 {
@@ -107,7 +107,7 @@ fn has_octets<F: Fn(i64) -> i64>(world: &World<F>, octets: &[u8], number: u32) -
     }
 }
 
-// Whether an entry is that of a frame with these octets that was sent from this end.
+// Whether an entry belongs to a frame with these octets that was sent from this end.
 fn is_such<F: Fn(i64) -> i64>(world: &World<F>, from: u32, octets: &[u8], came: Came) -> bool
     ensures { Tells F.post (λ s w. fits s w from octets.now came) world.now result }
 {
@@ -126,7 +126,7 @@ fn is_listed(came: &[Came], number: u32) -> bool
     false
 }
 
-// Whether a frame is no more kept.
+// Whether a frame is no longer kept.
 fn is_old<F: Fn(i64) -> i64>(world: &World<F>, number: u32) -> bool
     ensures { Tells F.post (λ s w. is_none (octets_at s w number)) world.now result }
 {
@@ -157,8 +157,8 @@ impl Index {
         }
     }
 
-    /// The frame that a datagram with these octets is, which came from this end: the least that was
-    /// not handed over yet, or else the greatest. None where no frame that arrived from there has
+    /// The frame that a datagram with these octets is, if it came from this end: the least that was
+    /// not handed over yet, or else the greatest. None if no frame that arrived from there has
     /// these octets.
     pub fn find<F: Fn(i64) -> i64>(&self, world: &World<F>, from: u32, octets: &[u8]) -> Option<u32>
         ensures { Tells F.post (λ s w. chosen (with_all (fits s w from octets.now)
@@ -173,7 +173,7 @@ impl Index {
         choice.chosen()
     }
 
-    /// Forgets frames that are no more kept.
+    /// Forgets frames that are no longer kept.
     pub fn forget_old<F: Fn(i64) -> i64>(&mut self, world: &World<F>)
         ensures came { Forgets F.post world.now self.old.came.items self.new.came.items }
         ensures handed { Forgets F.post world.now self.old.handed.items self.new.handed.items }
@@ -182,9 +182,8 @@ impl Index {
         forget_first(world, &mut self.handed);
     }
 
-    /// A frame arrived that was sent from this end. `AllocError` where there is no memory to keep
-    /// it: the frames that were handed over are as before, and nothing is known of those that
-    /// arrived.
+    /// A frame arrived that was sent from this end. `AllocError` if memory runs out: the frames
+    /// that were handed over are as before, and nothing is known of those that arrived.
     pub fn arrive(&mut self, number: u32, from: u32) -> Result<(), AllocError>
         ensures came { OnOk result (self.new.came.items
             ≡ self.old.came.items ++ came_at number from ∷ []) }
@@ -194,9 +193,8 @@ impl Index {
         Ok(())
     }
 
-    /// A frame is handed over that was sent from this end. `AllocError` where there is no memory to
-    /// keep it: the frames that arrived are as before, and nothing is known of those that were
-    /// handed over.
+    /// A frame is handed over that was sent from this end. `AllocError` if memory runs out: the
+    /// frames that arrived are as before, and nothing is known of those that were handed over.
     pub fn hand(&mut self, number: u32, from: u32) -> Result<(), AllocError>
         ensures handed { OnOk result (self.new.handed.items
             ≡ self.old.handed.items ++ came_at number from ∷ []) }

@@ -1,7 +1,7 @@
 //! A network over a link: the simulator makes its events, the frames that arrive go over the link as
 //! datagrams, and what the link gives is handled as frames that are handed over, as forged ones, or as noise.
-//! Whatever the link does, no premise of the world is broken, and all that is written is told by the calls of
-//! the link and what they answered (this project's profile).
+//! Whatever the link does, no premise of the world is broken, and the calls of the link and their answers
+//! determine all that is written (this project's profile).
 #![tactic(auto)]
 
 mod arrival;

@@ -22,8 +22,8 @@ use wrp_records::append_words;
 use wrp_trace::event_line;
 use wrp_world::{Event, NodeOut, World};
 
-/// Appends the line of an event, behind `= `. `AllocError` where there is no memory: then nothing
-/// is known of `text`.
+/// Appends the line of an event, after `= `. `AllocError` if memory runs out: then nothing is known
+/// of `text`.
 pub fn append_event(
     alloc: Global,
     event: &Event,
@@ -42,8 +42,8 @@ pub fn append_event(
     Ok(())
 }
 
-/// Appends what these steps put out in an event that left this world. `AllocError` where there is
-/// no memory: then nothing is known of `text`.
+/// Appends what these steps put out in an event that led to this world. `AllocError` if memory runs
+/// out: then nothing is known of `text`.
 pub fn append_steps<F: Fn(i64) -> i64>(
     alloc: Global,
     world: &World<F>,
@@ -62,7 +62,7 @@ pub fn append_steps<F: Fn(i64) -> i64>(
     Ok(())
 }
 
-// Appends the lines of what a node put out in an event that left this world.
+// Appends the lines of what a node put out in an event that led to this world.
 fn append_step<F: Fn(i64) -> i64>(
     alloc: Global,
     world: &World<F>,
@@ -101,8 +101,8 @@ fn append_outputs(
     Ok(())
 }
 
-/// Appends the last line, which tells how many datagrams were forged, where any was. `AllocError`
-/// where there is no memory: then nothing is known of `text`.
+/// Appends the last line, which says how many datagrams were forged, if any was. `AllocError` if
+/// memory runs out: then nothing is known of `text`.
 pub fn append_forged(forged: u64, text: &mut Vec<u8>) -> Result<(), AllocError>
     ensures { OnOk result (text.new.items ≡ text.old.items ++ concat (forged_lines forged)) }
 {

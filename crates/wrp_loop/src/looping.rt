@@ -1,4 +1,4 @@
-//! A loop as its caller runs it: its start, and then round by round to where it ends.
+//! A loop as its caller runs it: its start, and then round by round until it ends.
 ghost use Rattle.std.specs.Prelude.{◌≡◌, ◌*◌, ◌<◌, ◌++◌, ℕ, List, Option, Ok, Err, OnErr};
 ghost use Rattle.wrp_io.specs.declared.link.LinkCall.{LinkCall};
 ghost use Rattle.wrp_io.specs.Faults.{Rose};
@@ -25,8 +25,8 @@ fn end_count(net: &Network) -> u32
 
 /// Starts the link of a loop, before its first round: with two ends for each link of the network.
 ///
-/// `Failed` where it fails, and its count of faults rose; `Memory` where there is no memory for it.
-/// In both cases no call of it was answered.
+/// `Failed` if it fails: its count of faults rose. `Memory` if memory runs out. In both cases no
+/// call of the link was answered.
 pub fn start_loop<F: Fn(i64) -> i64, N: Link>(
     network: &LoopedNetwork<F>,
     course: &LoopCourse,
@@ -52,14 +52,14 @@ pub fn start_loop<F: Fn(i64) -> i64, N: Link>(
     }
 }
 
-/// One round of a loop: the next event of the simulator. One that hands a frame over is left out. A frame
-/// that arrives is sent as a datagram from the end that sent it, and what then waits at its receiver, up to
-/// 16 datagrams, is handled in its order. Any other event comes as it is. The lines of all events that came
-/// are appended to the text.
+/// One round of a loop: the next event of the simulator. An event that hands a frame over is left out. A
+/// frame that arrives is sent as a datagram from the end that sent it, and what then waits at its receiver,
+/// up to 16 datagrams, is handled in order. Any other event comes as it is. The lines of all events that
+/// came are appended to the text.
 ///
-/// Where a call of the link fails, the round came to nothing, and the text is as it was: the lines of all
-/// events before stand. Where memory lacks, what the round appended is of no use, and the loop goes no
-/// further: the text that stood before the round stands.
+/// If a call of the link fails, the round came to nothing, and the text is as it was, with the lines of all
+/// events before the round. If memory runs out, what the round appended is of no use, and the loop goes no
+/// further: only the text from before the round counts.
 pub fn take_round<F: Fn(i64) -> i64, N: Link>(
     alloc: Global,
     network: &mut LoopedNetwork<F>,

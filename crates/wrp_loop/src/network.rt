@@ -36,8 +36,8 @@ pub struct LoopedNetwork<F> {
     pub outs: Vec<NodeOut>,
 }
 
-/// What makes the events of a network, the place where the newest of its own is, how many came, how many
-/// datagrams were forged, and the frames that arrived.
+/// What makes the events of a network, the place for the newest event of its own, how many events came,
+/// how many datagrams were forged, and the frames that arrived.
 #[derive(Drop)]
 pub struct LoopCourse {
     /// The simulator.
@@ -53,8 +53,7 @@ pub struct LoopCourse {
 }
 
 impl LoopCourse {
-    /// Before the first event of a network. `AllocError` where there is no memory for it: nothing
-    /// is made.
+    /// Before the first event of a network. `AllocError` if memory runs out: nothing is made.
     pub fn new(
         alloc: Global,
         net: &Network,
@@ -84,7 +83,7 @@ impl LoopCourse {
 
 impl<F: Fn(i64) -> i64> LoopedNetwork<F> {
     /// A network before its first event, with the laws of the links above its nodes. `AllocError`
-    /// where there is no memory for it: no network is made.
+    /// if memory runs out: no network is made.
     pub fn new(
         alloc: Global,
         net: Network,
@@ -109,8 +108,8 @@ impl<F: Fn(i64) -> i64> LoopedNetwork<F> {
     }
 
     /// Takes an event that keeps all premises, and appends its line and what its steps put out.
-    /// `AllocError` where there is no memory: then nothing is known of `text`, nor whether the
-    /// event was taken.
+    /// `AllocError` if memory runs out: then nothing is known of `text`, nor of whether the event
+    /// was taken.
     pub fn happen(
         &mut self,
         alloc: Global,

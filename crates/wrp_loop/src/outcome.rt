@@ -5,7 +5,7 @@
 pub enum Rounded {
     /// An event of the simulator came, or was left out.
     GoesOn,
-    /// None comes any more.
+    /// No event comes any more.
     Over,
     /// The next event, of the simulator or of a datagram, has a number that reaches `2^32 - 1`.
     TooLarge,
@@ -16,6 +16,6 @@ pub enum Rounded {
 pub enum LoopFault {
     /// A call of the link failed, and its count of faults rose.
     Failed,
-    /// There was no memory.
+    /// Memory ran out.
     Memory,
 }

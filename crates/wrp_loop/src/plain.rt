@@ -1,4 +1,4 @@
-//! An event of the simulator comes that is no arrival, and hands no frame over.
+//! An event of the simulator comes that is not an arrival and hands no frame over.
 ghost use Rattle.std.specs.Prelude.{◌≡◌, ◌+◌, ◌*◌, ◌-◌, ◌^◌, ◌<◌, ◌≤◌, Ok, Err, List, Option, OnOk};
 ghost use Rattle.wrp_io.specs.declared.link.LinkCall.{LinkCall};
 ghost use Rattle.wrp_loop.specs.LoopRun.{IsPlain, LoopAt, Plan};
@@ -41,8 +41,8 @@ fn come<F: Fn(i64) -> i64>(
     Ok(())
 }
 
-/// It comes, unless it has too great a number. No call of the link is made. `Memory` where there is
-/// no memory: then the loop ends, and what `text` got is of no use. It is never `Failed`.
+/// It comes, unless it has too great a number. No call of the link is made. `Memory` if memory runs
+/// out: then the loop ends, and what was appended to `text` is of no use. It is never `Failed`.
 pub fn come_next<F: Fn(i64) -> i64>(
     alloc: Global,
     network: &mut LoopedNetwork<F>,

@@ -1,4 +1,4 @@
-//! One round of a loop: the next event of the simulator, and what comes of it.
+//! One round of a loop: the next event of the simulator, and what follows from it.
 ghost use Rattle.std.specs.Prelude.{◌≡◌, ◌*◌, ◌<◌, ◌≤◌, Ok, Err};
 ghost use Rattle.wrp_io.specs.Faults.{Rose};
 ghost use Rattle.wrp_loop.specs.LoopRun.{LoopAt, Plan};
@@ -20,9 +20,9 @@ use wrp_world::Event;
 pub enum Coming {
     /// The arrival of the frame with this number.
     Arrival(u32),
-    /// One that hands a frame over.
+    /// An event that hands a frame over.
     Handing,
-    /// Another.
+    /// Any other event.
     Plain,
 }
 
@@ -111,9 +111,9 @@ fn take_next<F: Fn(i64) -> i64, N: Link>(
     }
 }
 
-/// The next event of the simulator, and what comes of it. `Failed` where a call of the link failed:
-/// the round came to nothing, and `text` is as it was. `Memory` where there is no memory: the loop
-/// ends, and what `text` got is of no use.
+/// The next event of the simulator, and what follows from it. `Failed` if a call of the link
+/// failed: the round came to nothing, and `text` is as it was. `Memory` if memory runs out: the
+/// loop ends, and what was appended to `text` is of no use.
 pub fn next_round<F: Fn(i64) -> i64, N: Link>(
     alloc: Global,
     network: &mut LoopedNetwork<F>,

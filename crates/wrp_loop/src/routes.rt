@@ -73,7 +73,7 @@ fn identity_of(cfg: &NetCfg, node: u8) -> u64
     cfg.nodes[usize::from(node)].identity
 }
 
-/// The way of a frame. `None` where no frame of this number is kept.
+/// The way of a frame. `None` if no frame with this number is kept.
 pub fn route_of<F: Fn(i64) -> i64>(world: &World<F>, frame: u32) -> Option<Route>
     requires { IsValid F.pre F.post world.now }
     ensures { (s : Setting) (w : WorldAt) (f : FrameAt) → StandsFor F.post s w world.now → IsNetwork s

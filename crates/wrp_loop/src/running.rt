@@ -1,4 +1,5 @@
-//! The command `loop`: after its scenario was read the network runs over a link, and its lines are written as they come.
+//! The command `loop`: after its scenario has been read, the network runs over a link, and its lines are written as
+//! they come.
 ghost use Rattle.std.specs.Prelude.{◌≡◌, ◌++◌, [], ℕ, List, Option, IfOk, true, false};
 ghost use Rattle.std.specs.Io.KnownBytes.{Appends, IsAtEnd};
 ghost use Rattle.std.specs.List.{concat};
@@ -36,8 +37,8 @@ use wrp_records::{Reader, Status, answer, handle_records};
 use wrp_scene::Scene;
 use wrp_scene_records::{ScenarioLines, overrun, write_waiting};
 
-// Hands the sink an empty piece: a call like any other, which fails where the sink cannot be written to.
-// Answers whether it did not fail.
+// Gives the sink an empty piece: a call like any other, which fails if the sink cannot be written to.
+// Answers true if it did not fail.
 fn is_open<K: Sink>(sink: &mut K) -> bool
     ensures none { Appends (K.held sink.old) (K.held sink.new) [] }
     ensures rose { result ≡ false → Rose (K.faults sink.old) (K.faults sink.new) }
@@ -49,7 +50,7 @@ fn is_open<K: Sink>(sink: &mut K) -> bool
     }
 }
 
-// Appends the counters that are not 0, and how many datagrams were forged, where any was.
+// Appends the counters that are not 0, and how many datagrams were forged, if any was.
 fn append_closing<F: Fn(i64) -> i64>(
     network: &LoopedNetwork<F>,
     course: &LoopCourse,
@@ -88,7 +89,7 @@ fn close<F: Fn(i64) -> i64, K: Sink>(
 }
 
 // Runs a network over a link that was started, to the end of its scenario. All lines are written before
-// the next round, so that none waits at a call of the link.
+// the next round, so that no line waits during a call of the link.
 fn run_rounds<F: Fn(i64) -> i64, K: Sink, N: Link>(
     alloc: Global,
     network: &mut LoopedNetwork<F>,
@@ -127,8 +128,8 @@ fn run_rounds<F: Fn(i64) -> i64, K: Sink, N: Link>(
     }
 }
 
-// Runs a network by a scenario over a link, which is started first. Right before that the sink is handed an
-// empty piece, so that the link is not started where nothing can be written.
+// Runs a network by a scenario over a link, which is started first. Right before that the sink is given an
+// empty piece, so that the link is not started if nothing can be written.
 #[inline(never)]
 fn run_scene<F: Fn(i64) -> i64, K: Sink, N: Link>(
     alloc: Global,
@@ -169,7 +170,7 @@ fn run_scene<F: Fn(i64) -> i64, K: Sink, N: Link>(
 }
 
 /// Runs a network with these laws by the scenario that a reader's lines say, from a seed, over a link. No
-/// call of the link is made before all of them were read and the sink has taken an empty piece.
+/// call of the link is made before all lines were read and the sink has taken an empty piece.
 #[inline(never)]
 pub fn run_over<F: Fn(i64) -> i64, S: Source, K: Sink, N: Link>(
     alloc: Global,

@@ -71,7 +71,7 @@ plain_none (Up n off swaps) i plain = (λ h. h, refl)
 plain_none (Cut k) i plain = (λ h. h, refl)
 plain_none (Join k ms sm) i plain = (λ h. h, refl)
 
--- an event that is no arrival and hands nothing over
+-- an event that is not an arrival and hands nothing over
 pub plain_handed : (s : Setting) (events : List Happened) (e : Event) (says : Result PtpMsg FrameFault) (y : ℤ) → IsPlain e → HandedSo s events →
     HandedSo s (happened e says y ∷ events)
 plain_handed s events e says y plain h =
@@ -142,7 +142,7 @@ landed s events i f raw says y flies =
       arrived = arrival_here s says y w i raw f g flies.is there;
     }
 
--- it is young, since it may be handed over
+-- it is young, because it may be handed over
 not_over : (a b : ℤ) → not (le_z a b) ≡ false → a ≤ℤ b
 not_over a b h = grind (arith, ints, h)
 

@@ -1,5 +1,6 @@
--- Round by round, the events of a loop over a link that loses nothing are the events of a second simulator, which runs by itself. It has
--- the state of the loop's own simulator, except for a frame that the loop's has still to hand over, and for faults that do not apply.
+-- Round by round, the events of a loop over a link that loses nothing are the events of a second simulator, which
+-- runs by itself. It has the state of the loop's own simulator, except for a frame that the loop's simulator still
+-- has to hand over, and for faults that do not apply.
 use Rattle.std.proofs.Common.{◌≡◌, ◌∙◌, ◌⊎◌, inl, inr, refl, ap, sym, subst, ℕ, ℤ, ◌*◌, List, [], ◌∷◌, ◌++◌, append_assoc, append-nil, true, Option, None, Some, Result}
 use Rattle.arrayvec.specs.ArrayVec.{ArrayVec}
 use Rattle.wrp_base.specs.declared.message.PtpMsg.{PtpMsg}
@@ -37,14 +38,14 @@ use Rattle.wrp_lossless_laws.proofs.Taking.{IsEmptied, TakenOne, taken_by}
 
 -- The loop's simulator, and the second one
 
--- the loop's has still to hand over a frame that the second one handed over
+-- the loop's simulator still has to hand over a frame that the second one handed over
 pub record Owes (loop sim : SimAt) : Type 0 where
   pub number : ℕ
   pub rest : SimAt
   pub owes : loop ≡ owing number rest
   pub paid : sim ≡ paid number rest
 
--- the loop's has dropped the faults that do not apply, and the second one has not yet
+-- the loop's simulator has dropped the faults that do not apply, and the second one has not yet
 pub record Drops (scene : SceneAt) (s : Setting) (w : WorldAt) (loop sim : SimAt) : Type 0 where
   pub is : loop ≡ rest_of s w sim
   pub begun : begins scene s w sim ≡ None
@@ -93,7 +94,7 @@ pub record Follows (x : Plan) (l : LoopAt) : Type 0 where
   pub handed : HandedSo x.setting (events_at l)
   pub unforged : l.forged ≡ 0
 
--- so they are if the number of the next event is too great
+-- they are also a simulated run if the number of the next event is too great
 pub record Stops (x : Plan) (l : LoopAt) : Type 0 where
   pub sim : SimAt
   pub run : IsSimRun x.scene x.setting x.seed (events_at l) sim
@@ -114,7 +115,7 @@ starts x = record {
   unforged = refl;
 }
 
--- An event that is no arrival and hands no frame over
+-- An event that is not an arrival and hands no frame over
 
 abbrev next_with : Event → SimAt → Next
 next_with e at = record { event = e; at = at }
@@ -371,7 +372,7 @@ loop_follows x calls last p loses loops =
 
 -- Ends
 
--- where the loop's simulator gives no event any more, the second gives none
+-- if the loop's simulator gives no event any more, the second one gives none
 pub over_follows : (x : Plan) (l : LoopAt) (h : Follows x l) → Gives x.scene x.setting (world_at x l) l.at None →
     Gives x.scene x.setting (world_at x l) h.sim None
 over_follows x l h g =
@@ -387,7 +388,7 @@ large_owed : (x : Plan) (l : LoopAt) (sim : SimAt) (next : Next) → IsCounted n
 large_owed x l sim next counted o g (Same n both is) = (n, gives_paid x.scene x.setting (world_at x l) l.at sim next n o g is)
 large_owed x l sim next counted o g (Hands is begun fault) = absurd (subst IsCounted (ap (λ (n : Next). n.event) is) counted)
 
--- where it gives one that is counted, the second gives one
+-- if it gives an event that is counted, the second one gives an event
 pub large_follows : (x : Plan) (l : LoopAt) (h : Follows x l) → NextIsTooMany x l → (other : Next) × Gives x.scene x.setting (world_at x l) h.sim (Some other)
 large_follows x l h large =
     let w : WorldAt = world_at x l in

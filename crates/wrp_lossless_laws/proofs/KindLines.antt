@@ -96,7 +96,7 @@ steps_kinds s w (step ∷ steps) names =
 marked_kind : (s : Setting) (e : Event) → HasNames s.cfg → IsEventOf s.cfg e → is_of_kind (marked_line s.cfg e) ≡ false
 marked_kind s e names is = ap has_kind (reads (61 ∷ []) (event_text s.cfg e ∷ []) (refl, (event_word s.cfg e names is, tt)))
 
--- those of the lines of a loop's events
+-- the lines of these kinds among the lines of a loop's events
 loop_kinds : (s : Setting) (events : List Happened) → HasNames s.cfg → AllEvents s.cfg events →
     filter is_of_kind (loop_lines s events) ≡ lines_in is_printed s events
 loop_kinds s [] names each = refl

@@ -1,5 +1,5 @@
--- A simulator that has still to hand over the frame that arrived last, and one that has done so: the rules 1 to 4 give the same in both,
--- and where none of them applies the first hands the frame over.
+-- A simulator that still has to hand over the frame that arrived last, and one that has done so: the rules 1 to 4
+-- give the same in both, and if none of them applies the first hands the frame over.
 use Rattle.std.proofs.Common.{◌≡◌, ◌⊎◌, inl, inr, refl, sym, subst, ℕ, ℤ, ◌-◌, nat_lt, Bool, true, false, if◌then◌else◌, List, [], ◌∷◌, find, Option, None, Some, option_and_then}
 use Rattle.std.proofs.lemmas.Option.{none-some, same_Some}
 use Rattle.wrp_network.specs.Network.{node_count}
@@ -20,11 +20,11 @@ use Rattle.wrp_loop.specs.LoopRun.{IsPlain}
 abbrev pub holding : Option ℕ → Handed → SimAt → SimAt
 holding ticked arrived at = record at { ticked = ticked; arrived = arrived }
 
--- a frame that is handed over so many times
+-- a frame that is handed over this many times
 abbrev pub handing : (frame times : ℕ) → Handed
 handing frame times = record { frame = frame; times = times }
 
--- the frame is still handed over once, or no more
+-- the frame is still handed over once, or no longer
 abbrev pub owing : ℕ → SimAt → SimAt
 owing i at = holding None (handing i 1) at
 
@@ -33,7 +33,8 @@ paid i at = holding None (handing i 0) at
 
 -- What a rule gives in both
 
--- the same event, which is no arrival and hands nothing over, and then the same state again, except for the frame that arrived
+-- the same event, which is not an arrival and hands nothing over, and then the same state again, except for the
+-- frame that arrived
 pub record Both (a b : Handed) (m n : Next) : Type 0 where
   pub rest : SimAt
   pub plain : IsPlain m.event
@@ -136,7 +137,7 @@ owed_next scene s w due i at m is =
       | inr hands ↦ Hands hands.0 hands.1 hands.2
     ]
 
--- where a frame has still to be handed over, there is a next event
+-- if a frame still has to be handed over, there is a next event
 first_some : (e : Next) (o p q r : Option Next) (others : List (Option Next)) → None ≡ first_of (o ∷ (p ∷ (q ∷ (r ∷ (Some e ∷ others))))) → ⊥
 first_some e (Some o) p q r others is = none-some o is
 first_some e None (Some p) q r others is = none-some p is

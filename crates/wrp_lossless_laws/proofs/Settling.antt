@@ -53,7 +53,7 @@ quiet_stays s v at quiet = ap (λ (l : List Fault). record at { faults = l }) (q
 
 -- Dropping the faults that do not apply
 
--- where the first two rules give nothing, the others decide
+-- if the first two rules give nothing, the others decide
 after_two : (a b : Option Next) (rules : List (Option Next)) → a ≡ None → b ≡ None → first_of (a ∷ (b ∷ rules)) ≡ first_of rules
 after_two a b rules p q = λ k. first_of (p k ∷ (q k ∷ rules))
 
@@ -72,7 +72,8 @@ dropped_next scene s w due at begun fault =
 
 -- What comes next
 
--- an event that is no arrival, hands nothing over, and leaves the frame that arrived last as it is
+-- an event that is not an arrival, hands nothing over, and leaves the frame that arrived last as it
+-- is
 pub record PlainNext (at : SimAt) (m : Next) : Type 0 where
   pub plain : IsPlain m.event
   pub arrived : m.at.arrived ≡ at.arrived

@@ -22,7 +22,7 @@ use Rattle.wrp_lossless_laws.specs.LosesNothing.{LosesNothing}
 abbrev pub IsEmptied : List LinkCall → Type 0
 IsEmptied calls = Carries calls []
 
--- One call more
+-- One more call
 
 one_later : (all before later : List LinkCall) (call : LinkCall) → all ≡ before ++ call ∷ later → all ≡ (before ++ call ∷ []) ++ later
 one_later all before later call is = is ∙ sym (append_assoc before (call ∷ []) later)

@@ -1,4 +1,5 @@
--- An output of six lines that is worked out: four of them are of the kinds step, link, servo and track (this project's profile).
+-- A worked example, an output of six lines: four of them are of the kinds step, link, servo and track (this
+-- project's profile).
 use Rattle.std.specs.Prelude.{◌≡◌, ℕ, List, [], ◌∷◌, ◌++◌, codes}
 use Rattle.wrp_records.specs.Words.{line_of}
 use Rattle.wrp_lossless_laws.specs.Kinds.{kinds_in}

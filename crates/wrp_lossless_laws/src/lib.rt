@@ -27,8 +27,8 @@ pub fn lossless_loop_prints_the_simulation()
     looped_events_carry_parts();
 }
 
-/// The definition of a link that loses nothing, worked out: calls that keep to it, and three lists of calls that do
-/// not, since a frame is lost, comes twice or is overtaken.
+/// The definition of a link that loses nothing, worked out: calls that satisfy it, and three lists of calls that do
+/// not, because a frame is lost, comes twice or is overtaken.
 pub fn worked_links()
     ensures { WorkedLinks }
 {}

@@ -10,7 +10,7 @@ use wrp_base::TraceFault;
 use wrp_fields::{field, name_fault};
 use wrp_network::NetCfg;
 
-/// The node that the field of a place names. `Name` with this place where it is no node's name.
+/// The node that the field of a place names. `Name` with this place if it is no node's name.
 pub fn node_at(row: &ByteRecord, place: u32, cfg: &NetCfg) -> Result<u8, TraceFault>
     requires { 0 < place }
     ensures value { result ≡ node_at cfg.now place (fields_of row.now) }
@@ -22,7 +22,7 @@ pub fn node_at(row: &ByteRecord, place: u32, cfg: &NetCfg) -> Result<u8, TraceFa
     }
 }
 
-/// The link that the field of a place names. `Name` with this place where it is no link's name.
+/// The link that the field of a place names. `Name` with this place if it is no link's name.
 pub fn link_at(row: &ByteRecord, place: u32, cfg: &NetCfg) -> Result<u8, TraceFault>
     requires { 0 < place }
     ensures value { result ≡ link_at cfg.now place (fields_of row.now) }

@@ -1,5 +1,5 @@
-//! Names of nodes and links in the fields of lines: the node and the link of a network that a name, as
-//! octets of a line, stands for. The lines of traces and scenarios are this project's profile.
+//! Names of nodes and links in the fields of lines: the node or the link of a network that is named by
+//! octets of a line. The lines of traces and scenarios are this project's profile.
 #![tactic(auto)]
 
 mod fields;

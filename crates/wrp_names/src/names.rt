@@ -21,7 +21,8 @@ fn node_place(nodes: &[NodeCfg], name: &[u8]) -> Option<usize>
     nodes.iter().position(|node| is_node_named(node, name))
 }
 
-/// The node of a name, by its place from 0 in file order. None exactly where no node has it.
+/// The node with a name, by its place from 0 in file order. None if and only if no node has that
+/// name.
 pub fn node_named(cfg: &NetCfg, name: &[u8]) -> Option<u8>
     ensures value { result ≡ node_named cfg.now name.now }
     ensures within { IfSome result (λ n. n < node_count cfg.now) }
@@ -46,7 +47,8 @@ fn link_place(links: &[LinkCfg], name: &[u8]) -> Option<usize>
     links.iter().position(|link| is_link_named(link, name))
 }
 
-/// The link of a name, by its place from 0 in file order. None exactly where no link has it.
+/// The link with a name, by its place from 0 in file order. None if and only if no link has that
+/// name.
 pub fn link_named(cfg: &NetCfg, name: &[u8]) -> Option<u8>
     ensures value { result ≡ link_named cfg.now name.now }
     ensures within { IfSome result (λ l. l < length cfg.now.links.items) }

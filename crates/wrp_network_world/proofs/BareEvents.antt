@@ -1,4 +1,5 @@
--- What a line of events says, and what an input's line is, do not see the unused room of names.
+-- What a line of events says, and what an input's line is, do not depend on the unused room of
+-- names.
 use Rattle.std.proofs.Common.{◌≡◌, ◌∙◌, refl, ap, ap₂, ℕ, ℤ, ◌+◌, true, false, Option, None, Some, Result, Ok, List, [], ◌∷◌, map, drop}
 use Rattle.wrp_network.specs.declared.configuration.NetCfg.{NetCfg}
 use Rattle.wrp_base.specs.declared.fault.TraceFault.{TraceFault}

@@ -1,4 +1,4 @@
--- A world does not see what is in the unused room of names.
+-- A world does not depend on what is in the unused room of names.
 use Rattle.std.proofs.Common.{◌≡◌, ◌∙◌, refl, ap, ap₂, ℕ, ℤ, pos, not, ◌==◌, ◌+◌, ◌-ℤ◌, Bool, true, false, ◌&&◌, ◌||◌, if◌then◌else◌, List, [], ◌∷◌, ◌++◌, flat_map, map, Option, None, Some, is_some, option_map, Result, sym, subst}
 use Rattle.std.specs.Prelude.{slice_get, option_and_then, nat_lt}
 use Rattle.std.specs.Option.{option_map_or}
@@ -44,11 +44,11 @@ use Rattle.wrp_network_world.specs.Counts.{all_counts}
 use Rattle.wrp_replay.specs.DownLaw.{law_at}
 use Rattle.wrp_network_world.proofs.NodeCounts.{counts_bare}
 
--- a setting whose network's names stand without their unused room
+-- a setting whose network's names are without their unused room
 abbrev pub bare_setting : Setting → Setting
 bare_setting s = record s { cfg = bare_cfg s.cfg }
 
--- What stands where in the network
+-- Where things are in the network
 
 pub link_bare : (s : Setting) (k : ℕ) → link_of (bare_setting s) k ≡ option_map bare_link (link_of s k)
 link_bare s k = slice_get-map bare_link s.cfg.links.items k

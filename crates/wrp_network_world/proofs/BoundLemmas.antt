@@ -13,13 +13,13 @@ use Rattle.wrp_plant.specs.Plant.{Each}
 pub each_at : {A : Type 0} (P : ℕ → A → Type 0) (xs : List A) (i n : ℕ) (d : A) → Each P xs → i < length xs → i ≡ n → P n (get_or xs i d)
 each_at P xs i n d all is same = subst (λ (k : ℕ). P k (get_or xs i d)) same (all i (get_or xs i d) (slice_get-get_or xs i d is))
 
--- a path that is worked out is none too great
+-- no path that is worked out is too great
 pub small_path : (bound : ℤ) (path : ℕ) → bound ≡ pos path → bound <ℤ pos (2 ^ 100) → path < 2 ^ 100
 small_path bound path is less =
     let own = subst (λ (z : ℤ). z <ℤ pos (2 ^ 100)) is less in
     omega (arith, ints, own)
 
--- it stands at the node's place
+-- it is at the node's place
 pub bound_at : (cfg : NetCfg) (bounds : List ℤ) (i n : ℕ) → AreBounds cfg bounds → n < node_count cfg → i ≡ n
     → to_z w128 (of_z w128 (get_or bounds i (pos 0))) ≡ pos (path_of cfg n)
 bound_at cfg bounds i n all is same =

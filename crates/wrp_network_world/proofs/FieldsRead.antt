@@ -20,7 +20,7 @@ pub both : {A B : Type 0} (read : Result A TraceFault) (next : A → Result B Tr
 both (Ok x) next value e = record { first = x; is = refl; rest = e }
 both (Err fault) next value e = absurd (cc)
 
--- what is read only where a test holds
+-- what is read only if a test holds
 pub read_if : {A : Type 0} (b : Bool) (fault : TraceFault) (read : Result A TraceFault) (x : A) → (if b then read else Err fault) ≡ Ok x
     → (b ≡ true) × (read ≡ Ok x)
 read_if true fault read x e = (refl, e)

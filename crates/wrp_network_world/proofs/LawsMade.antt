@@ -45,7 +45,7 @@ made_next has net n o link law kept some over same closure kind least greatest e
     (λ found. subst (IsLawOver net.db (link_above net.cfg n)) (sym closure) (is_asked net.db (link_above net.cfg n) o link over same found))
     (subst (λ (k : LinkLaw). HasNumbers k law) (sym closure) (record { kind = kind; least = least; greatest = greatest; error = error })))
 
--- The same in a network that is the same
+-- The same in the same network
 
 over_to : (db : Database) (o : Option LinkCfg) (law : LinkLaw) → IsLawOver db o law → IsLawOver db (option_map bare_link o) law
 over_to db None law h = h

@@ -76,7 +76,7 @@ laws_of cfg db accepted n hop x y numbers low high answer =
     share_of hop it.link.kappa it.link.law_err it.link.law_err x y it.kappa it.error (le_self it.link.law_err)
     (subst (IsNear (Linear it.link.kappa) it.link.law_err x) (sym is) (near_over cfg db n it.link x accepted it.above from to))
 
--- of an accepted network that has this setting
+-- for an accepted network that has this setting
 pub laws_near : (s : Setting) (cfg : NetCfg) (db : Database) → IsAccepted cfg db → s ≡ setting_at cfg db → LawsAreNear s
 laws_near s cfg db accepted is = subst LawsAreNear (sym is) (laws_of cfg db accepted)
 

@@ -1,4 +1,4 @@
--- What is due by one meaning of lines is due by another that it leads to.
+-- What is expected by one meaning of lines is expected by another that it leads to.
 use Rattle.std.proofs.Common.{inl, inr, ℕ, List, map}
 use Rattle.wrp_records.specs.declared.machine.Refusal.{Refusal}
 use Rattle.wrp_records.specs.declared.machine.Refusal.TheVariants as refusals
@@ -9,7 +9,7 @@ use Rattle.wrp_records.specs.LineMeaning.{LineMeaning}
 use Rattle.wrp_records.specs.RecordsAnswer.{RecordsAnswer}
 use Rattle.wrp_records.specs.Stream.{Handles}
 
--- what is due by one meaning is due by another that it leads to
+-- what is expected by one meaning is expected by another that it leads to
 pub record Leads (M N : LineMeaning) : Type 0 where
   pub accepts : (lines : List (List ℕ)) (text : List ℕ) → M.accepts lines text → N.accepts lines text
   pub refuses : (lines : List (List ℕ)) (line last : List ℕ) (refusal : Refusal) → M.refuses lines line refusal last → N.refuses lines line refusal last

@@ -1,4 +1,5 @@
--- A world before its first event, with laws that fit its network, stands for that of the network's setting, and has the links' laws.
+-- A world before its first event, with laws that fit its network, stands for the world of the network's setting
+-- before any event, and has the links' laws.
 use Rattle.std.proofs.Common.{◌≡◌, ◌∙◌, refl, ap, sym, subst, ℕ, ℤ, ◌<◌, List, length, Option, None, Some, IfSome, arith}
 use Rattle.std.specs.Prelude.{slice_get, option_and_then}
 use Rattle.wrp_network.specs.declared.network.LinkCfg.{LinkCfg}
@@ -24,7 +25,7 @@ use Rattle.wrp_network_world.proofs.WorldRuns.{below_count}
 
 -- The range of each law
 
--- a place behind all laws has no link above
+-- a place after all laws has no link above
 none_above : {F : Type 0} (net : Network) (laws : List (Option (LawOf F))) (n : ℕ) → IsTree net.cfg → length laws ≡ node_count net.cfg → slice_get laws n ≡ None
     → link_above net.cfg n ≡ None
 none_above net laws n tree counted none = go (link_above net.cfg n) refl
@@ -67,7 +68,7 @@ setting_is {pre = pre} {post = post} net laws fit tree = λ i. record {
   hi = λ n. high_is {pre = pre} {post = post} net laws fit tree n i;
 }
 
--- a world before its first event stands for that of the network's setting
+-- a world before its first event stands for the world of the network's setting before any event
 pub new_stands : {F : Type 0} {pre : F → ℤ → Type 0} {post : F → ℤ → ℤ → Type 0} (net : Network) (laws : List (Option (LawOf F))) (world : WorldOf F)
     → LawsFit pre post net laws → IsTree net.cfg
     → StandsFor post (setting_of net.cfg net.db laws) (new_world (setting_of net.cfg net.db laws)) world

@@ -1,4 +1,4 @@
--- The counters that close the records over a world, a node after the other.
+-- The counters that close the records over a world, one node after another.
 use Rattle.std.proofs.Common.{◌≡◌, ◌∙◌, refl, ap, ap₂, sym, append_assoc, append-nil, ℕ, ℤ, suc, ◌+◌, ◌-◌, ◌==◌, ◌<◌, ◌≤◌, if◌then◌else◌, List, [], ◌++◌, flat_map, map, Some, arith}
 use Rattle.std.specs.Prelude.{slice_get}
 use Rattle.std.specs.List.{list_any}
@@ -54,7 +54,7 @@ owns_ports_of post s w world net n node stands own is p has =
     (stands.set n ∙ ap (λ (cfg : NetCfg). set_of cfg n) (sym stands.plant.cfg ∙ ap (λ (k : Network). k.cfg) (sym own)) ∙ sym (set_bare net.cfg n)) in
     ap (λ (ns : List ℕ). list_any (λ q. q == p) ns) numbers ∙ is_own (bare_setting (line_setting_of net n)) p has
 
--- Those of the nodes from one on are lacking
+-- The counters of the nodes from one on are still missing
 
 abbrev counts_at : Setting → WorldAt → ℕ → List ℕ
 counts_at s w n = node_counts (line_setting_in s n) (w.node n)

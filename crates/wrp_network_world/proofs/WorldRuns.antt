@@ -57,7 +57,7 @@ made_after s (h ∷ before) =
 
 -- Measurements have the answers of the links' laws
 
--- what is found stands somewhere, and is what was looked for
+-- what is found is at some place, and is what was looked for
 pub record Found {X : Type 0} (p : X → Bool) (xs : List X) (x : X) : Type 0 where
   pub at : ℕ
   pub is : slice_get xs at ≡ Some x

@@ -22,25 +22,25 @@ pub record HasNumbers {F : Type 0} (link : LinkLaw) (law : LawOf F) : Type 0 whe
   pub greatest : law.hi ≡ most_of link
   pub error : law.err ≡ error_of link
 
--- a node's law as it is made: the closure has the law of the link above the node, where there is one
+-- a node's law as it is made: the closure has the law of the link above the node, if there is one
 pub record IsMade {F : Type 0} (has : F → LinkLaw) (net : Network) (n : ℕ) (law : Option (LawOf F)) : Type 0 where
   pub some : is_some law ≡ is_some (link_above net.cfg n)
   pub link : IfSome law (λ k. IsLawOver net.db (link_above net.cfg n) (has k.closure))
   pub numbers : IfSome law (λ k. HasNumbers (has k.closure) k)
 
--- a node's law fits the network, and is that of the link above it
+-- a node's law fits the network, and is the law of the link above it
 pub record FitsAt {F : Type 0} (pre : F → ℤ → Type 0) (post : F → ℤ → ℤ → Type 0) (net : Network) (n : ℕ)
     (law : Option (LawOf F)) : Type 0 where
   pub fits : FitsLaw pre post net.cfg n law
   pub is : IsLawAt pre post (line_setting_in (setting_in net) n) law
 
--- each node has one
+-- each node has such a law
 pub record LawsFit {F : Type 0} (pre : F → ℤ → Type 0) (post : F → ℤ → ℤ → Type 0) (net : Network)
     (laws : List (Option (LawOf F))) : Type 0 where
   pub count : length laws ≡ node_count net.cfg
   pub each : Each (FitsAt pre post net) laws
 
--- of a world: the law of each node is that of the link above it
+-- for a world: the law of each node is the law of the link above it
 abbrev pub HasLawOf : {F : Type 0} → (F → ℤ → ℤ → Type 0) → Setting → WorldOf F → Type 0
 HasLawOf post s world =
     Each (λ n node. IfSome (law_in node.control) (AnswersBy post (law_at (line_setting_in s n)))) world.nodes

@@ -11,8 +11,8 @@ use Rattle.wrp_trace.specs.LineSetting.{line_setting_in}
 use Rattle.wrp_course.specs.Setting.{Setting}
 use Rattle.wrp_replay.specs.DownLaw.{law_at, least_over, greatest_over}
 
--- the setting of a network: each node is set to its part of it, and its delay law is that of the link
--- above it
+-- the setting of a network: each node is set to its part of the network, and its delay law is the law
+-- of the link above it
 abbrev pub setting_at : NetCfg → Database → Setting
 setting_at cfg db = record {
   cfg = cfg;
@@ -36,6 +36,6 @@ pub record IsSettingOf (text : List ℕ) (s : Setting) : Type 0 where
 abbrev pub laws_in : Setting → ℕ → ℤ → ℤ
 laws_in s n = law_at (line_setting_in s n)
 
--- what they answer
+-- what these laws answer
 abbrev pub answers_in : Setting → ℕ → ℤ → ℤ → Type 0
 answers_in s n = answers_by (laws_in s n)

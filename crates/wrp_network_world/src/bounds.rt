@@ -9,7 +9,7 @@ use wrp_base::Tau;
 use wrp_bounds::path;
 use wrp_config::Network;
 
-/// The bounds of all nodes in TRACK, in tau. `AllocError` where there is no memory for them.
+/// The bounds of all nodes in TRACK, in tau. `AllocError` if memory runs out.
 pub fn bounds_of(alloc: Global, net: &Network) -> Result<Vec<Tau>, AllocError>
     requires ranges { HasRanges net.now.cfg }
     requires tree { IsTree net.now.cfg }

@@ -13,7 +13,7 @@ use std::alloc::AllocError;
 use wrp_replay::{Replayed, append_counts, name_of};
 use wrp_world::World;
 
-// Appends those of a node.
+// Appends the lines of a node's counters.
 fn append_node<F: Fn(i64) -> i64>(
     world: &World<F>,
     node: u8,
@@ -32,8 +32,8 @@ fn append_node<F: Fn(i64) -> i64>(
     append_counts(replayed, name, world.node(node), text)
 }
 
-/// Appends those of all nodes. `AllocError` where there is no memory: then nothing is known of
-/// `text`.
+/// Appends the lines of all nodes' counters. `AllocError` if memory runs out: then nothing is known
+/// of `text`.
 pub fn append_all_counts<F: Fn(i64) -> i64>(
     world: &World<F>,
     text: &mut Vec<u8>,

@@ -130,7 +130,7 @@ step_cycles commands s y w v g n names below =
     (track_all IsHeld (λ est. tt) (node_setting_of s g.to) g.input (step_of s y v g).node))
     ∙ ap (own (n == g.to)) (outputs_total (node_setting_of s g.to) g.input (v.node g.to) (step_of s y v g))
 
--- An input moves the clock by the periods that its lines tell
+-- An input moves the clock by the periods that its lines give
 
 own_moves : (s : Setting) (y : ℤ) (v : WorldAt) (g : Given) (n : ℕ) (b : Bool)
     → (if b then clock_told s v g (step_of s y v g).cycles (v.clock n) else v.clock n).off ≡ (v.clock n).off +ℤ (own b (step_of s y v g).cycles *ℤ pos (period_of s.cfg.clock))
@@ -164,7 +164,7 @@ given_moves commands s y w (g ∷ gs) v n names below =
 
 -- An event
 
--- the periods that its lines tell of a node
+-- the periods that its lines give for a node
 abbrev pub cycles_at : Setting → List Happened → Happened → ℕ → ℤ
 cycles_at s before h n = total (cycles_of (name_at s.cfg n)) (lines_at (λ o. true) s before h)
 
@@ -177,7 +177,7 @@ event_moves commands s before h n names below =
 plus_none : (off : ℤ) → off ≡ off +ℤ pos 0
 plus_none off = omega (arith, ints)
 
--- an event that does not start the node moves it by its drift
+-- an event that does not start the node moves its clock by its drift
 moves_by : (w : WorldAt) (e : Event) (n : ℕ) → start_by e n ≡ None → (clock_after w e n).off ≡ (w.clock n).off +ℤ drift_by e n
 moves_by w (Pass dt drifts fibres) n h = refl
 moves_by w (Tick m) n h = plus_none (w.clock n).off

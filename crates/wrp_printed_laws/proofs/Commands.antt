@@ -1,4 +1,4 @@
--- A node commands a step of its clock in SYNC_TAI and in SYNC_NSEC alone.
+-- A node commands a step of its clock only in SYNC_TAI and in SYNC_NSEC.
 use Rattle.std.proofs.Common.{◌≡◌, ◌⊎◌, inl, inr, refl, sym, subst, ℕ, ◌==◌, ℤ, pos, unsigned_abs, Bool, true, false, cond, if◌then◌else◌, Option, None, Some, is_some, Result, Ok, Err}
 use Rattle.wrp_base.specs.declared.link.Deltas.{Deltas}
 use Rattle.wrp_base.specs.declared.link.ServoState.{ServoState}
@@ -53,7 +53,7 @@ newest_meant : (b : Bool) (state : ServoState) (x : ℤ) → IsMeant state x →
 newest_meant true state x h = inl refl
 newest_meant false state x h = h
 
--- the servo of a node with a slave port is told a measurement
+-- the servo of a node with a slave port is given a measurement
 measured_meant : (fixed : NodeSetting) (o : Option Four) (y : ℤ) (n : NodeAt) (b : Bool) (s : Step) → s.node.calls ≡ n.calls → s.cycles ≡ pos 0 →
     IsMeant (if b then (run (servo_setting_of fixed) n.calls).state else Uninit) (tell fixed (if b then measurement_by o y else None) s).cycles
 measured_meant fixed o y n false s same none = inl none

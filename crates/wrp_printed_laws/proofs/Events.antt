@@ -39,7 +39,7 @@ IsCalm TickInput = ⊥
 IsCalm Reset = ⊥
 IsCalm _ = Unit {0}
 
--- all inputs that an event gives are calm, but for the first of a tick and of a start
+-- all inputs that an event gives are calm, except the first input of a tick and of a start
 abbrev IsQuiet : Event → Type 0
 IsQuiet (Tick m) = ⊥
 IsQuiet (Up m off swaps) = ⊥
@@ -131,7 +131,7 @@ pub event_stands : (s : Setting) (says : Result PtpMsg FrameFault) (y : ℤ) (w 
     → ((world_step s says y w e).clock n).up ≡ (clock_after w e n).up
 event_stands s says y w e n = given_stands s y (given_by s w (moved s w e) says e) (moved s w e) n
 
--- Inputs that are no tick
+-- Inputs that are not a tick
 
 calm_not : (gs : List Given) → AllGiven IsCalm gs → AllGiven IsNoTick gs
 calm_not [] h = tt

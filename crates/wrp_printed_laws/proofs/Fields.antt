@@ -39,7 +39,7 @@ use Rattle.wrp_printed_laws.specs.Offsets.{drift_in, passed_in, start_in, ticks_
 use Rattle.wrp_printed_laws.proofs.Events.{drift_by, start_by, tick_by}
 use Rattle.wrp_printed_laws.proofs.Names.{finds, number_is, same_names}
 
--- these fields say of the node of this name what the event says of its number
+-- these fields say of the node with this name what the event says of its number
 pub record TellsEvent (node : List ℕ) (n : ℕ) (fields : List (List ℕ)) (e : Event) : Type 0 where
   pub starts : start_in node fields ≡ start_by e n
   pub passes : passed_in node fields ≡ drift_by e n
@@ -54,7 +54,7 @@ IsOther (events.Tick m) = ⊥
 IsOther (events.Up m off swaps) = ⊥
 IsOther _ = Unit {0}
 
--- words that begin no line of theirs
+-- words that begin none of their lines
 record IsOtherWord (word : List ℕ) : Type 0 where
   up : same_name word (codes "up") ≡ false
   pass : same_name word (codes "pass") ≡ false
@@ -241,7 +241,7 @@ one_move place said more l text e =
     let it = both (said_once place said.moves l (move_in text)) (λ move. Ok (with_move said l move)) more e in
     ap (λ (s : SaidAt). s.drifts) (ok_same (with_move said l it.first) more it.rest)
 
--- a field leaves what is said of the node already
+-- a field leaves what is already said of the node
 kept_by : (place : ℕ) (said more : SaidAt) (n : ℕ) (d : ℤ) (o l : Option ℕ) (text : List ℕ) → slice_get said.drifts n ≡ Some (Some d)
     → named_said place said o l text ≡ Ok more → slice_get more.drifts n ≡ Some (Some d)
 kept_by place said more n d (Some m) l text is e =
@@ -436,7 +436,7 @@ line_tells cfg names n below line e h =
     let it : IsSo (is_plain line) Fields (event_of cfg (parts_of line)) e = so (is_plain line) Fields (event_of cfg (parts_of line)) e h in
     counted_tells cfg names n below (parts_of line) (kind_of (field_of 1 (parts_of line))) e refl it.rest
 
--- names past their end say nothing
+-- the room past the end of a name says nothing
 as_plain : (node : List ℕ) (n : ℕ) (fields : List (List ℕ)) (e : Event) → TellsEvent node n fields (bare e) → TellsEvent node n fields e
 as_plain node n fields (events.Up m off swaps) h = record { starts = h.starts; passes = h.passes; ticks = h.ticks }
 as_plain node n fields (events.Pass dt drifts fibres) h = h

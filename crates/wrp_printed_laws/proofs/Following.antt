@@ -61,7 +61,7 @@ start_or_not e n = by (start_by e n) refl
     by None is = inr is
     by (Some off) is = inl (off, is)
 
--- one that does not leaves a node down that is down
+-- an event that does not start a node leaves it down if it is down
 stays_up : (w : WorldAt) (e : Event) (n : ℕ) → start_by e n ≡ None → (clock_after w e n).up ≡ true → (w.clock n).up ≡ true
 stays_up w (Sample m base bits) n none up = by (n == m) up
   where
@@ -87,7 +87,7 @@ stays_up w (Noise m p octets raw) n none up = up
 stays_up w (Cut k) n none up = up
 stays_up w (Join k ms sm) n none up = up
 
--- What a start and another event make of it
+-- What a start and another event make of the offset
 
 -- an event line and what is printed of it
 record IsSeen (s : Setting) (it : Seen) (before : List Happened) (h : Happened) : Type 0 where
@@ -182,7 +182,7 @@ all_since commands s (h ∷ before) (it ∷ seen) n names below are up =
 
 -- Track lines
 
--- what follows where a line is a track line
+-- what follows if a line is a track line
 abbrev Claims : Setting → Seen → List Seen → List ℕ → Type 0
 Claims s it older line =
     (node tick est bound off : List ℕ) → Reads line (node ∷ tick ∷ codes "track" ∷ est ∷ bound ∷ codes "true" ∷ off ∷ []) →
@@ -216,7 +216,7 @@ others_are (Report (Link p word)) h = tt
 others_are (Report (Servo state)) h = tt
 others_are (Report (Track est)) h = absurd h
 
--- the line of another output is no track line
+-- the line of any other output is not a track line
 other_claims : (s : Setting) (w : WorldAt) (it : Seen) (older : List Seen) (m : ℕ) (o : Output) → HasNames s.cfg → IsNoTrack o → Claims s it older (line_at s w m o)
 other_claims s w it older m (Send p frame) names h node tick est bound off is = absurd (let f : 115 ≡ 116 = ap kind_octet (sym (at_reads s w m (Send p frame) names) ∙ is) in omega (arith, f))
 other_claims s w it older m (Step cycles) names h node tick est bound off is = absurd (let f : 115 ≡ 116 = ap kind_octet (sym (at_reads s w m (Step cycles) names) ∙ is) in omega (arith, f))
@@ -227,7 +227,7 @@ other_claims s w it older m (Report (Servo state)) names h node tick est bound o
     absurd (let f : 115 ≡ 116 = ap kind_octet (sym (at_reads s w m (Report (Servo state)) names) ∙ is) in omega (arith, f))
 other_claims s w it older m (Report (Track est)) names h node tick words bound off is = absurd h
 
--- a track line follows, where the event is a tick of its node, which is up
+-- a track line follows, if the event is a tick of its node, which is up
 record IsTicked (s : Setting) (w : WorldAt) (it : Seen) (older : List Seen) (m : ℕ) : Type 0 where
   there : m < node_count s.cfg
   since : Since s w (it ∷ older) m

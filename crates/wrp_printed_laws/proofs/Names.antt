@@ -1,4 +1,5 @@
--- Nodes are told apart by their names, and a number of a range is the number that the text writes.
+-- Nodes are distinguished by their names, and a number of a range is the number that the text
+-- writes.
 use Rattle.std.proofs.Common.{◌≡◌, inl, inr, ◌∙◌, refl, ap, sym, subst, ℕ, ◌<◌, ◌==◌, ℤ, true, List, [], Option, None, Some}
 use Rattle.std.specs.Prelude.{int_le, option_and_then, slice_get}
 use Rattle.std.specs.Option.{option_map_or}
@@ -38,7 +39,7 @@ finds cfg names n below =
 no_empty_name : is_name [] ≡ true → ⊥
 no_empty_name e = cc e
 
--- a node of the network has a name, which no text for other numbers is
+-- a node of the network has a name, which no other number has
 there_by : (cfg : NetCfg) → HasNames cfg → (m n : ℕ) (o : Option NodeCfg) → slice_get cfg.nodes.items m ≡ o → n < node_count cfg
     → option_map_or (λ (node : NodeCfg). node.name.bytes) o [] ≡ name_at cfg n → m ≡ n
 there_by cfg names m n (Some other) is below same =

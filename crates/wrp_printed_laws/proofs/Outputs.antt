@@ -1,4 +1,4 @@
--- What a step of a node puts out: one step of its clock at most, and a report of TRACK at a tick alone.
+-- What a step of a node puts out: at most one step of its clock, and a report of TRACK only at a tick.
 use Rattle.std.proofs.Common.{◌≡◌, ◌∙◌, refl, ap, sym, ℕ, suc, ◌==◌, ◌&&◌, ◌%◌, ℤ, pos, negsuc, ◌+ℤ◌, unsigned_abs, Bool, true, false, if◌then◌else◌, List, [], ◌∷◌, ◌++◌, map, flat_map, Option, None, Some, arith}
 use Rattle.std.specs.List.{AllByRecursion}
 use Rattle.std.proofs.lemmas.Bool.{eqb-true}
@@ -27,7 +27,7 @@ IsOther (Report (Servo state)) = ⊥
 IsOther (Report (Track est)) = ⊥
 IsOther _ = Unit {0}
 
--- something holds of each of these
+-- something holds for each of these
 abbrev pub Others : (Output → Type 0) → Type 0
 Others P = (o : Output) → IsOther o → P o
 
@@ -99,7 +99,7 @@ outputs_all P others states fixed input before s step tracks =
     (ports_all P others fixed before s (numbers_of fixed.set)))
     tracks
 
--- at an input that is no tick there is no report of TRACK
+-- at an input that is not a tick there is no report of TRACK
 abbrev pub IsNoTick : Input → Type 0
 IsNoTick TickInput = ⊥
 IsNoTick _ = Unit {0}
@@ -112,7 +112,7 @@ no_track P fixed (Sent p seq delay stamp) n h = tt
 no_track P fixed (Carrier p up own_module) n h = tt
 no_track P fixed Reset n h = tt
 
--- The periods that the outputs of a step tell
+-- The periods that the outputs of a step give
 
 abbrev pub periods : Output → ℤ
 periods (StepOf cycles) = cycles

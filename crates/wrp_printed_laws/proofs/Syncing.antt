@@ -1,5 +1,5 @@
--- Each step of a clock is printed while the last printed state of its servo is SYNC_TAI or SYNC_NSEC: the last printed state is the
--- one that the servo is in, as each change of it is printed.
+-- Each step of a clock is printed while the last printed state of its servo is SYNC_TAI or SYNC_NSEC: the last
+-- printed state is the one that the servo is in, because each change of it is printed.
 use Rattle.std.proofs.Common.{◌≡◌, ◌⊎◌, inl, inr, ◌∙◌, refl, ap, sym, subst, append-nil, append_assoc, ℕ, ◌<◌, ◌==◌, ℤ, pos, unsigned_abs, Bool, true, false, if◌then◌else◌, is_some, List, [], ◌∷◌, ◌++◌, flat_map, Some, codes}
 use Rattle.std.specs.Fmt.{decimal}
 use Rattle.std.specs.List.{AllByRecursion}
@@ -39,9 +39,9 @@ use Rattle.wrp_trace.proofs.GivenWithin.{AllWithin, given_within}
 use Rattle.wrp_printed_laws.proofs.Words.{output_reads}
 use Rattle.wrp_lines.proofs.LineWords.{at_word}
 
--- One line more
+-- One more line
 
--- where a line stands in a list with one more at its end
+-- the place of a line in a list with one more line at its end
 abbrev Placed : List (List ℕ) → List ℕ → (before later : List (List ℕ)) → List ℕ → Type 0
 Placed lines x before later line =
     ((lines ≡ before) × (x ≡ line)) ⊎ ((rest : List (List ℕ)) × (lines ≡ before ++ line ∷ rest))
@@ -60,7 +60,7 @@ placed (y ∷ lines) x (b ∷ before) later line e = elim (placed lines x before
   | inr it ↦ inr (it.0, ap (λ (l : List (List ℕ)). y ∷ l) it.1 ∙ ap (λ (l : List ℕ). l ∷ (before ++ line ∷ it.0)) (heads y b (lines ++ x ∷ []) (before ++ line ∷ later) e))
 ]
 
--- where the line is a step, it comes so
+-- if the line is a step, it comes in this way
 abbrev Sync : List ℕ → List (List ℕ) → Type 0
 Sync node lines = IsLastState node (codes "sync-tai") lines ⊎ IsLastState node (codes "sync-nsec") lines
 
@@ -147,7 +147,7 @@ kind_is s w m (Report (Link p word)) = refl
 kind_is s w m (Report (Servo state)) = refl
 kind_is s w m (Report (Track est)) = refl
 
--- a line of another kind does not read so
+-- a line of another kind does not read like this
 other_kind : (s : Setting) (w : WorldAt) (m : ℕ) (o : Output) (node tick kind : List ℕ) (more : List (List ℕ)) → HasNames s.cfg
     → same_name (kind_of o) kind ≡ false → same_name kind kind ≡ true →
     Reads (line_at s w m o) (node ∷ tick ∷ kind ∷ more) → ⊥
@@ -169,12 +169,12 @@ others_quiet (Report (Track est)) h = absurd h
 
 -- What holds of the lines so far
 
--- each step came synced, and the last printed state of each node is its state
+-- each step came in sync, and the last printed state of each node is its state
 record Holds (s : Setting) (lines : List (List ℕ)) (state : ℕ → ServoState) : Type 0 where
   steps : StepsAreSynced lines
   told : (n : ℕ) → n < node_count s.cfg → Told lines (name_at s.cfg n) (state n)
 
--- a line that tells no state
+-- a line that says no state
 plain_line : (s : Setting) (lines : List (List ℕ)) (state : ℕ → ServoState) (x : List ℕ) → ComesSynced lines x → ((node : List ℕ) → SaysNone node x)
     → Holds s lines state → Holds s (lines ++ x ∷ []) state
 plain_line s lines state x comes none holds = record {
@@ -190,7 +190,7 @@ says_no_step : (s : Setting) (w : WorldAt) (m : ℕ) (o : Output) (lines : List 
     → ComesSynced lines (line_at s w m o)
 says_no_step s w m o lines names other node tick cycles reads = absurd (other_kind s w m o node tick (codes "step") (cycles ∷ []) names other refl reads)
 
--- where it is printed
+-- if it is printed
 if_printed : (s : Setting) (lines : List (List ℕ)) (state : ℕ → ServoState) (b : Bool) (x : List ℕ) → Holds s (lines ++ x ∷ []) state → Holds s lines state
     → Holds s (lines ++ (if b then x ∷ [] else [])) state
 if_printed s lines state true x h k = h
@@ -259,7 +259,7 @@ servo_line s w m state next after lines names becomes holds =
       ];
     }
 
--- the same states, where no state is printed
+-- the same states, if no state is printed
 same_states : (s : Setting) (lines : List (List ℕ)) (m : ℕ) (state next : ℕ → ServoState) (after : ServoState) → state m ≡ after → Becomes m after state next
     → Holds s lines state → Holds s lines next
 same_states s lines m state next after same becomes holds = record {
@@ -270,7 +270,7 @@ same_states s lines m state next after same becomes holds = record {
   ];
 }
 
--- states at one place are one
+-- states with the same number are the same
 abbrev state_in : ℕ → ServoState
 state_in k =
     if k == 0 then Uninit

@@ -38,7 +38,7 @@ pub output_reads : (name : List ℕ) (tick : ℕ) (o : Output) (bound : ℤ) (tr
     Reads (line_of (name ∷ decimal tick ∷ output_words o bound truth)) (name ∷ decimal tick ∷ output_words o bound truth)
 output_reads name tick o bound truth is = reads name (decimal tick ∷ output_words o bound truth) (is, (decimal_word tick, output_are o bound truth))
 
--- the line of what a node put out in an event that left this world
+-- the line of what a node put out in an event that led to this world
 abbrev pub words_at : Setting → WorldAt → ℕ → Output → List (List ℕ)
 words_at s w m o = name_at s.cfg m ∷ decimal (w.node m).ticks ∷ output_words o (pos (path_of s.cfg m)) (Some (w.clock m).off)
 

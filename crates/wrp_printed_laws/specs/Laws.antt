@@ -1,4 +1,4 @@
--- What holds of the lines that are printed of each run of a network (this project's profile).
+-- What holds for the lines that are printed of each run of a network (this project's profile).
 use Rattle.std.specs.Prelude.{◌≡◌, ◌⊎◌, ℕ, ℤ, Bool, true, if◌then◌else◌, Some, Ok, List, [], ◌∷◌, ◌++◌}
 use Rattle.std.specs.List.{flat_map}
 use Rattle.wrp_network.specs.declared.configuration.NetCfg.{NetCfg}
@@ -17,12 +17,12 @@ use Rattle.wrp_trace.specs.Events.{event_read, bare}
 use Rattle.wrp_printed_laws.specs.Offsets.{AllFollow, Seen}
 use Rattle.wrp_printed_laws.specs.Steps.{StepsAreSynced}
 
--- the line of an output of a node in an event that left this world, where it is printed
+-- the line of an output of a node in an event that led to this world, if it is printed
 abbrev pub output_lines : (Output → Bool) → Setting → WorldAt → ℕ → Output → List (List ℕ)
 output_lines is_printed s w n o =
     if is_printed o then output_line s.cfg n (w.node n).ticks o (Some (w.clock n).off) ∷ [] else []
 
--- those of a step of a node, of an event, and of all events, the newest of which is first
+-- the lines of a step of a node, of an event, and of all events, the newest first
 abbrev pub step_lines : (Output → Bool) → Setting → WorldAt → NodeStepAt → List (List ℕ)
 step_lines is_printed s w step = flat_map (output_lines is_printed s w step.node) step.outs
 
@@ -34,7 +34,7 @@ abbrev pub lines_in : (Output → Bool) → Setting → List Happened → List (
 lines_in is_printed s [] = []
 lines_in is_printed s (h ∷ before) = lines_in is_printed s before ++ lines_at is_printed s before h
 
--- the line says the event, or the same with names that are told by their texts alone
+-- the line says the event, or the same event with nothing but the texts of its names
 abbrev pub SaysEvent : NetCfg → List ℕ → Event → Type 0
 SaysEvent cfg line e = (event_read cfg line ≡ Ok e) ⊎ (event_read cfg line ≡ Ok (bare e))
 

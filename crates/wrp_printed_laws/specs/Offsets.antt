@@ -26,13 +26,13 @@ start_in node (kind ∷ name ∷ off ∷ more) =
     if same_name kind (codes "up") && same_name name node then number_of off else None
 start_in node _ = None
 
--- NODE=DRIFT among these fields; 0 where there is none (octet 61 is `=`)
+-- NODE=DRIFT among these fields; 0 if there is none (octet 61 is `=`)
 abbrev pub drift_in : List ℕ → List (List ℕ) → ℤ
 drift_in node [] = pos 0
 drift_in node (field ∷ fields) =
     if same_name (before 61 field) node then unwrap_or (number_of (behind 61 field)) (pos 0) else drift_in node fields
 
--- `pass,DT` with the drifts: by so much it moves the node's clock
+-- `pass,DT` with the drifts: how far it moves the node's clock
 abbrev pub passed_in : List ℕ → List (List ℕ) → ℤ
 passed_in node (kind ∷ span ∷ fields) = if same_name kind (codes "pass") then drift_in node fields else pos 0
 passed_in node _ = pos 0
@@ -42,9 +42,9 @@ abbrev pub ticks_in : List ℕ → List (List ℕ) → ℕ
 ticks_in node (kind ∷ name ∷ more) = if same_name kind (codes "tick") && same_name name node then 1 else 0
 ticks_in node _ = 0
 
--- What a printed line says of it
+-- What a printed line says of a node
 
--- NODE TICK step CYCLES: by so many periods it moves the node's clock; 0 for any other line
+-- NODE TICK step CYCLES: by how many periods it moves the node's clock; 0 for any other line
 abbrev pub cycles_in : List ℕ → List (List ℕ) → ℤ
 cycles_in node (name ∷ tick ∷ kind ∷ cycles ∷ more) =
     if same_name kind (codes "step") && same_name name node then unwrap_or (number_of cycles) (pos 0) else pos 0
@@ -63,7 +63,7 @@ moved_by period node seen =
 
 -- Tick counts
 
--- of what is seen, the newest first, the ticks of the node since its last `up`
+-- the ticks of the node since its last `up` in what is seen, the newest first
 abbrev pub ticks_since : List ℕ → List Seen → ℕ
 ticks_since node [] = 0
 ticks_since node (it ∷ older) =
@@ -76,14 +76,15 @@ TellsTicks cfg seen line =
     (number : ℕ) × (more : List (List ℕ)) × (number < node_count cfg)
     × (gap_parts line ≡ name_at cfg number ∷ decimal (ticks_since (name_at cfg number) seen) ∷ more)
 
--- so it is with each line that is printed of the newest event line. Thus a `step` line from before a start of its node is counted after
--- it only at an event line where the node has as many ticks again
+-- this holds for each line that is printed of the newest event line. Thus a `step` line from before a start of its
+-- node is counted after that start only at an event line where the node has as many ticks again
 abbrev pub TicksFollow : NetCfg → Seen → List Seen → Type 0
 TicksFollow cfg newest older = AllByRecursion (TellsTicks cfg (newest ∷ older)) newest.lines
 
 -- Since the last start
 
--- of what is seen, the newest first, this is all since the last `up` of the node, which started its clock with this offset
+-- this is everything since the last `up` of the node in what is seen, the newest first; that `up` started the
+-- node's clock with this offset
 pub record IsSince (node : List ℕ) (seen since : List Seen) (start : ℤ) : Type 0 where
   pub up : Seen
   pub earlier : List Seen
@@ -93,8 +94,8 @@ pub record IsSince (node : List ℕ) (seen since : List Seen) (start : ℤ) : Ty
 
 -- Track lines
 
--- these words are what a `track` line of the newest event line says: the event is a tick of the node, BOUND is the bound of its path
--- in the network, and OFF its start and all by which its clock moved since
+-- these words are what a `track` line of the newest event line says: the event is a tick of the node, BOUND is the
+-- bound of its path in the network, and OFF is its start plus everything by which its clock has moved since
 pub record Follows (cfg : NetCfg) (newest : Seen) (older : List Seen) (node bound off : List ℕ) : Type 0 where
   pub number : ℕ
   pub there : number < node_count cfg
@@ -106,7 +107,8 @@ pub record Follows (cfg : NetCfg) (newest : Seen) (older : List Seen) (node boun
   pub bound_is : decimal (path_of cfg number) ≡ bound
   pub off_is : signed_decimal (start +ℤ total (moved_by (period_of cfg.clock) node) since) ≡ off
 
--- so it is with each line NODE TICK track EST BOUND true OFF that is printed of the newest event line
+-- this holds for each line NODE TICK track EST BOUND true OFF that is printed of the newest event
+-- line
 abbrev pub TracksFollow : NetCfg → Seen → List Seen → Type 0
 TracksFollow cfg newest older =
     AllByRecursion
@@ -115,7 +117,7 @@ TracksFollow cfg newest older =
     Follows cfg newest older node bound off)
     newest.lines
 
--- and of each event line; the newest is first
+-- and for each event line; the newest is first
 abbrev pub AllFollow : NetCfg → List Seen → Type 0
 AllFollow cfg [] = Unit {0}
 AllFollow cfg (newest ∷ older) = TicksFollow cfg newest older × TracksFollow cfg newest older × AllFollow cfg older

@@ -7,7 +7,7 @@ use Rattle.wrp_printed_laws.specs.Words.{Reads}
 abbrev pub SaysState : List ℕ → List ℕ → List ℕ → Type 0
 SaysState node state line = (tick : List ℕ) × Reads line (node ∷ tick ∷ codes "servo" ∷ state ∷ [])
 
--- the last of these lines that tells the state of the node's servo tells this one
+-- this is the last of these lines that says a state of the node's servo, and it says this state
 pub record IsLastState (node state : List ℕ) (lines : List (List ℕ)) : Type 0 where
   pub before : List (List ℕ)
   pub line : List ℕ
@@ -16,7 +16,8 @@ pub record IsLastState (node state : List ℕ) (lines : List (List ℕ)) : Type 
   pub says : SaysState node state line
   pub last : AllByRecursion (λ other. (any : List ℕ) → SaysState node any other → ⊥) later
 
--- where one of these lines reads NODE TICK step CYCLES, the last state of the node's servo before it is SYNC_TAI or SYNC_NSEC
+-- if one of these lines reads NODE TICK step CYCLES, the last state of the node's servo before it is SYNC_TAI or
+-- SYNC_NSEC
 abbrev pub StepsAreSynced : List (List ℕ) → Type 0
 StepsAreSynced lines =
     (before later : List (List ℕ)) (line node tick cycles : List ℕ) → lines ≡ before ++ line ∷ later →

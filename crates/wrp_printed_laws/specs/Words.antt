@@ -6,7 +6,8 @@ use Rattle.std.specs.List.{slice_split}
 abbrev pub is_gap : ℕ → Bool
 is_gap c = (c == 32) || (c == 10)
 
--- what the spaces and the LF of a line keep apart: behind the LF of a whole line there is an empty text
+-- the parts of a line between its spaces and its LF: after the LF of a whole line there is an empty
+-- text
 abbrev pub gap_parts : List ℕ → List (List ℕ)
 gap_parts line = slice_split is_gap line
 

@@ -9,9 +9,9 @@ ghost use Rattle.wrp_printed_laws.specs.Laws.{OffsetsFollow, StepsComeSynced};
 use wrp_node::{commands_are_held, ticks_are_counted};
 
 /// In each line NODE TICK track EST BOUND true OFF that is printed of an event of a run, BOUND is the bound of
-/// the node's path. OFF is the offset of its last `up` event, and to it are added the drift of each `pass` since
-/// and a period for each of the CYCLES of each `step` line of the node since. Each line of an event begins with a
-/// node and its TICK, which counts the node's `tick` events since its last `up` event.
+/// the node's path. OFF is the offset of its last `up` event, plus the drift of each `pass` since, plus a period
+/// for each of the CYCLES of each `step` line of the node since. Each line of an event begins with a node and its
+/// TICK, which counts the node's `tick` events since its last `up` event.
 pub fn offsets_follow()
     ensures { OffsetsFollow }
 {

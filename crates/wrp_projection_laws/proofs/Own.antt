@@ -90,7 +90,7 @@ abbrev pub put_out_by : Setting → List Happened → List PutOut
 put_out_by s [] = []
 put_out_by s (h ∷ before) = put_out_by s before ++ flat_map (put_in (world_after s (h ∷ before))) (steps_at s before h)
 
--- the lines of all of it
+-- the lines of all that is put out
 
 step_are : (s : Setting) (w : WorldAt) (step : NodeStepAt) → flat_map (audit_line s.cfg) (put_in w step) ≡ step_lines s w step
 step_are s w step = flat_map-map (audit_line s.cfg) (put_at w step.node) step.outs
@@ -107,7 +107,7 @@ audit_is s (h ∷ before) =
     ap₂ (λ (a b : List ℕ). a ++ b) (audit_is s before) (sym (steps_are s w (steps_at s before h)))
     ∙ sym (flat_map-append (audit_line s.cfg) (put_out_by s before) (flat_map (put_in w) (steps_at s before h)))
 
--- Ticks: an input behind another of the same event is a carrier
+-- Ticks: an input after another one of the same event is a carrier
 
 abbrev Stays : Input → Type 0
 Stays inputs.Tick = ⊥

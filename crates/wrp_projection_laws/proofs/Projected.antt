@@ -1,4 +1,5 @@
--- An audit and the inputs that it gives a node are of one run, and the replay on these inputs is the node's part of it.
+-- An audit and the inputs that it gives a node belong to one run, and the replay on these inputs is the node's part
+-- of it.
 use Rattle.std.proofs.Common.{◌≡◌, ◌∙◌, inl, inr, refl, ap, ap₂, sym, subst, append-nil, ℕ, ◌<◌, ◌≤◌, ◌^◌, ◌==◌, Some, Ok, List, [], ◌∷◌, ◌++◌, map, reverse, length, arith}
 use Rattle.std.specs.List.{AllByRecursion}
 use Rattle.std.proofs.lemmas.List.{length-map, length-reverse, reverse-reverse}
@@ -163,7 +164,7 @@ said_run accepted input audit a =
       few = omega (arith, count, size, few);
     }
 
--- Records in a network whose names stand without their unused room
+-- Records in a network whose names are without their unused room
 
 abbrev bare_at : NetCfg → Database → Setting
 bare_at cfg db = setting_at (bare_cfg cfg) db
@@ -201,7 +202,7 @@ replayed_so site inputs last recorded said made answered =
       closes = (inputs, are, record { said = said; answered = by_law }, ap (node_counts site) made);
     }
 
--- the records that stand for them are due to be replayed
+-- the replay of the records for these inputs is expected to end with this
 wholly : (site : LineSetting) (inputs : List Taken) (last : NodeAt) (lines : List (List ℕ)) → lines ≡ records_of site inputs → length lines < 2 ^ 32
     → AllRecorded site inputs → Replayed site inputs last
     → IsWholly (meaning_of site) lines (written site inputs ++ node_counts site last)
@@ -221,7 +222,7 @@ wholly site inputs last lines are few recorded replayed =
 
 -- One run
 
--- the audit and the emission, in one network whose names stand without their unused room
+-- the audit and the emission, in one network whose names are without their unused room
 record OneOfBoth (input name audit records : List ℕ) : Type 0 where
   net : Network
   site : LineSetting

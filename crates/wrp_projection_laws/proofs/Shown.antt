@@ -1,4 +1,4 @@
--- A text of lines of nodes, and what of it is of one node.
+-- A text with the lines of nodes, and the part of it for one node.
 use Rattle.std.proofs.Common.{◌≡◌, ◌∙◌, refl, ap, ap₂, sym, subst, append-nil, ℕ, ℤ, pos, zero, suc, ◌+◌, ◌<◌, ◌≤◌, ◌==◌, Bool, true, false, cond, if◌then◌else◌, List, [], ◌∷◌, ◌++◌, map, flat_map, take, Option, None, Some, option_map, slice_get, codes, arith}
 use Rattle.std.specs.Fmt.{decimal}
 use Rattle.std.specs.List.{AllByRecursion, concat, filter}
@@ -34,7 +34,7 @@ use Rattle.wrp_records.proofs.Reaching.{lines_alone}
 use Rattle.wrp_projection_laws.specs.Projection.{IsProjection, PutOut, audit_line, begins_with, lines_of_node, node_of, of_node, replay_line, without_truth, words_of}
 use Rattle.wrp_projection_laws.proofs.Texts.{AreWords, IsWord, cut_back, decimal_word, hex_word, line_whole, link_is_word, name_word, reason_is_word, servo_is_word, signed_word, words_back}
 
--- A line of a node, and what of it is shown without the true offset
+-- A line of a node, and the part of it that is shown without the true offset
 record Entry : Type 0 where
   node : ℕ
   full : List ℕ
@@ -55,7 +55,7 @@ full_of e = e.full
 abbrev short_of : Entry → List ℕ
 short_of e = e.short
 
--- a text of such lines, and what is shown of one node
+-- a text of such lines, and the part that is shown for one node
 record Shown (cfg : NetCfg) (n : ℕ) (text part : List ℕ) : Type 0 where
   es : List Entry
   lines : AllByRecursion (IsLine cfg) es
@@ -133,7 +133,7 @@ output_are_words (output.Report (Servo state)) bound truth = (refl, (servo_is_wo
 output_are_words (output.Report (Track est)) bound None = (refl, (signed_word est, (signed_word bound, tt)))
 output_are_words (output.Report (Track est)) bound (Some off) = (refl, (signed_word est, (signed_word bound, (refl, (signed_word off, tt)))))
 
--- the true offset stands behind the fifth word
+-- the true offset comes after the fifth word
 fifth : (name tick : List ℕ) (o : Output) (bound off : ℤ) → take 5 (name ∷ tick ∷ output_words o bound (Some off)) ≡ name ∷ tick ∷ output_words o bound None
 fifth name tick (output.Send port frame) bound off = refl
 fifth name tick (output.Step cycles) bound off = refl
@@ -224,7 +224,7 @@ counts_shown site n m node word =
     of_where site.cfg n m (has_port (node_of site m) port) (port_counts (name_at site.cfg m) port (node.counters port)) (port_shown site.cfg n m port (node.counters port) word))
     port_numbers
 
--- of all nodes one is this one
+-- one of all nodes is this one
 abbrev own_of : ℕ → (ℕ → List ℕ) → ℕ → ℕ → List ℕ
 own_of n h count first = flat_map (λ m. where_own (m == n) (h m)) (from_on count first)
 

@@ -1,5 +1,5 @@
--- The lines of outputs and of counters, by their words: each begins with the name of its node, and what stands behind its
--- fifth word is the true offset.
+-- The lines of outputs and of counters, by their words: each begins with the name of its node, and only the true
+-- offset comes after the fifth word.
 use Rattle.std.proofs.Common.{◌≡◌, ◌⊎◌, inl, inr, ◌∙◌, refl, ap, sym, append_assoc, ℕ, ℤ, zero, suc, ◌+◌, ◌/◌, ◌%◌, ◌≤◌, ◌==◌, ◌&&◌, ◌||◌, not, Bool, true, false, List, [], ◌∷◌, ◌++◌, take, length, Option, None, Some, arith}
 use Rattle.std.specs.Prelude.{nat_le, slice_index, slice_index_or}
 use Rattle.std.specs.Fmt.{decimal, signed_decimal}
@@ -26,7 +26,7 @@ use Rattle.wrp_projection_laws.specs.Projection.{without_truth, words_of}
 use Rattle.wrp_projection_laws.proofs.Written.{content_clean, no_feeds, no_returns}
 use Rattle.wrp_records.proofs.WordLemmas.{decimal_passes, signed_passes}
 
--- Octets that may stand in a word
+-- Octets that may appear in a word
 
 abbrev pub is_clean : ℕ → Bool
 is_clean c = not (c == 32) && (not (c == 10) && not (c == 13))
@@ -140,7 +140,7 @@ line_joined word [] = refl
 line_joined word (next ∷ words) =
     ap (λ (l : List ℕ). word ++ 32 ∷ l) (line_joined next words) ∙ sym (append_assoc word (32 ∷ join_with_byte 32 (next ∷ words)) (10 ∷ []))
 
--- an octet that may stand in a line
+-- an octet that may appear in a line
 abbrev is_line_octet : ℕ → Bool
 is_line_octet c = not (c == 10) && not (c == 13)
 
@@ -186,11 +186,11 @@ split_back word (next ∷ words) are =
     slice_split_at (λ octet. octet == 32) word 32 (join_with_byte 32 (next ∷ words)) (space_free word are.0) refl
     ∙ ap (λ (ws : List (List ℕ)). word ∷ ws) (split_back next words are.1)
 
--- the words of a line are those that it was made of
+-- the words of a line are the words that it was made of
 pub words_back : (word : List ℕ) (words : List (List ℕ)) → AreWords (word ∷ words) → words_of (line_of (word ∷ words)) ≡ word ∷ words
 words_back word words are = ap (slice_split (λ octet. octet == 32)) (line_content word words are) ∙ split_back word words are
 
--- and without what stands behind the fifth it is the line of the first five
+-- and without what comes after the fifth word it is the line of the first five
 pub cut_back : (word : List ℕ) (words : List (List ℕ)) → AreWords (word ∷ words) → without_truth (line_of (word ∷ words)) ≡ line_of (take 5 (word ∷ words))
 cut_back word words are =
     ap (λ (ws : List (List ℕ)). join_with_byte 32 (take 5 ws) ++ 10 ∷ []) (words_back word words are) ∙ sym (line_joined word (take 4 words))

@@ -27,7 +27,7 @@ use Rattle.wrp_records.specs.Stream.{IsWithin}
 use Rattle.wrp_records.proofs.LineEnds.{content_whole, whole_within}
 use Rattle.wrp_replay.proofs.OneReplay.{one_more}
 
--- the record lines of these inputs, which stand newest first, and what they say
+-- the record lines of these inputs, which are newest first, and what they say
 abbrev pub record_of : LineSetting → Taken → List ℕ
 record_of site t = line_of site t.input ++ 10 ∷ []
 
@@ -62,7 +62,7 @@ octets_of (c ∷ cs) is = is
 abbrev pub NoReturn : ℕ → Type 0
 NoReturn c = (c == 13) ≡ false
 
--- octets that all pass a test have what each that passes has
+-- if all octets pass a test, they have what each octet that passes has
 pub no_feeds : (test : ℕ → Bool) → ((c : ℕ) → test c ≡ true → (c == 10) ≡ false) → (cs : List ℕ) → list_all test cs ≡ true → HasNoFeed cs
 no_feeds test h [] is = tt
 no_feeds test h (c ∷ cs) is =
@@ -86,7 +86,7 @@ kept : (cs : List ℕ) → AllByRecursion NoReturn cs → without_return cs ≡ 
 kept [] h = refl
 kept (c ∷ cs) h = rw h.0 refl
 
--- what a line without CR says with its LF is the line
+-- what a line without CR says, once it has its LF, is the line
 pub content_clean : (line : List ℕ) → AllByRecursion NoReturn line → content_of (line ++ 10 ∷ []) ≡ line
 content_clean line h = content_whole line ∙ ap reverse (kept (reverse line) (all_turned NoReturn line h)) ∙ reverse-reverse line
 

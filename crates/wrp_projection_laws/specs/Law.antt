@@ -19,9 +19,9 @@ abbrev pub FrontWithRecords : Type 0
 FrontWithRecords =
     (front back text records : List ℕ) → Divides front text → HasRecords (front ++ back) records (front ++ records)
 
--- Where an audit, which calls no link, is due to end with Done, and so are the inputs of a node in it, fewer than 2^32, the
--- replay of that node on these inputs in the same network is due to end with Done, and to write the
--- node's lines of the audit
+-- If an audit, which calls no link, is expected to end with Done, and so are the inputs of a node in it, fewer than
+-- 2^32, then the replay of that node on these inputs in the same network is expected to end with Done, and to write
+-- the node's lines of the audit
 abbrev pub ReplayOfEmittedInputs : Type 0
 ReplayOfEmittedInputs =
     (auditing emitting replaying : CommandLine) (name input replayed audit records : List ℕ) →

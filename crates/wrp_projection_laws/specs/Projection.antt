@@ -1,5 +1,5 @@
--- The projection of an audit to a node: the lines of the audit that are of that node, without the true
--- offset, which a replay does not know (this project's profile).
+-- The projection of an audit to a node: the lines of the audit for that node, without the true offset,
+-- which a replay does not know (this project's profile).
 use Rattle.std.specs.Prelude.{◌≡◌, ◌==◌, ℕ, ℤ, Bool, false, None, Some, List, [], ◌∷◌, ◌++◌, take}
 use Rattle.std.specs.List.{filter, flat_map, join_with_byte, slice_split}
 use Rattle.wrp_network.specs.declared.configuration.NetCfg.{NetCfg}
@@ -26,7 +26,7 @@ abbrev pub begins_with : List ℕ → List (List ℕ) → Bool
 begins_with name [] = false
 begins_with name (word ∷ words) = same_name word name
 
--- the first five words of a line: ` true OFF` stands behind the fifth, and nothing else does
+-- the first five words of a line: only ` true OFF` comes after the fifth
 abbrev pub without_truth : List ℕ → List ℕ
 without_truth line = join_with_byte 32 (take 5 (words_of line)) ++ 10 ∷ []
 
@@ -37,22 +37,22 @@ lines_of_node name audit =
 
 -- By the run
 
--- what a node put out in a run: at which tick count, and how far its clock then was from true time
+-- what a node put out in a run, at which tick count, and how far its clock then was from true time
 pub record PutOut : Type 0 where
   pub node : ℕ
   pub tick : ℕ
   pub off : ℤ
   pub output : Output
 
--- its line in an audit, where a track line tells the true offset
+-- its line in an audit, in which a track line gives the true offset
 abbrev pub audit_line : NetCfg → PutOut → List ℕ
 audit_line cfg x = output_line cfg x.node x.tick x.output (Some x.off)
 
--- the same line without it
+-- the same line without the true offset
 abbrev pub replay_line : NetCfg → PutOut → List ℕ
 replay_line cfg x = output_line cfg x.node x.tick x.output None
 
--- what one node put out of it
+-- what one node put out of all this
 abbrev pub of_node : ℕ → List PutOut → List PutOut
 of_node n outs = filter (λ x. x.node == n) outs
 
@@ -60,9 +60,9 @@ of_node n outs = filter (λ x. x.node == n) outs
 abbrev pub node_of : LineSetting → ℕ → LineSetting
 node_of site n = record site { node = n }
 
--- Of one run an audit and a replay are the texts: the audit has the line of all that its nodes put out,
--- and then the counters that are not 0 of all nodes; the replay has the line of what this node put out,
--- without the true offset, and then the counters of this node
+-- An audit and a replay are the texts of one run: the audit has the lines of everything that its nodes
+-- put out, and then the counters of all nodes that are not 0; the replay has the lines of what this
+-- node put out, without the true offset, and then the counters of this node
 pub record IsProjection (site : LineSetting) (audit replay : List ℕ) : Type 0 where
   pub outs : List PutOut
   pub last : ℕ → NodeAt
@@ -72,8 +72,8 @@ pub record IsProjection (site : LineSetting) (audit replay : List ℕ) : Type 0 
   pub of_one : replay ≡
       flat_map (replay_line site.cfg) (of_node site.node outs) ++ node_counts site (last site.node)
 
--- the replay of the node of a name is that of the audit, in the network that a text describes: by the
--- run, and by the octets alone
+-- the replay of the node with this name is the projection of the audit, in the network that a text
+-- describes: by the run, and by the octets alone
 pub record IsProjectionTo (text name audit replay : List ℕ) : Type 0 where
   pub site : LineSetting
   pub network : IsNetworkOf text site

@@ -181,7 +181,7 @@ noise_ranged cfg fields e is =
     let d = bound (raw_from 5 fields) (λ raw. Ok (events.Noise a.value b.value c.value raw)) e c.rest in
     subst IsRanged (ok_same (events.Noise a.value b.value c.value d.value) e d.rest) (frame_fits 4 c.value fields c.is, raw_range 5 d.value fields d.is)
 
--- the other kinds hand on no numbers of a range
+-- the other kinds hand on no numbers that have a range
 pass_ranged : (cfg : NetCfg) (fields : List (List ℕ)) (e : Event) → pass_of cfg fields ≡ Ok e → IsRanged e
 pass_ranged cfg fields e is =
     let a = bound (span_at 2 fields) (λ dt. changes_said cfg 3 (nothing_said cfg) (drop 2 fields) >>= (λ said. Ok (pass_with dt said))) e is in

@@ -37,7 +37,7 @@ are_octets [] h i = omega arith
 are_octets (x ∷ xs) h zero = h.0
 are_octets (x ∷ xs) h (suc i) = are_octets xs h.1 i
 
--- octets, so many at most
+-- octets, at most this many
 record Short (most : ℕ) (octets : List ℕ) : Type 0 where
   small : Small octets
   few : length octets ≤ most

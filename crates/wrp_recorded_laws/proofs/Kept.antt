@@ -30,7 +30,7 @@ use Rattle.wrp_recorded_laws.proofs.Sends.{AreShort, IsShort, node_short}
 abbrev pub WaitShort : List Sending → Type 0
 WaitShort waiting = AllByRecursion (λ (x : Sending). IsShort x.message) waiting
 
--- a frame that arrived, where so many events came
+-- a frame that arrived, if this many events came
 abbrev pub CameSo : ℕ → Option Arrival → Type 0
 CameSo count arrival = IfSome arrival (λ (a : Arrival). IsRaw a.raw × (a.sample ≤ count))
 

@@ -37,11 +37,11 @@ port_by ports s accepted k Slave link there =
 port_of_end : PortIsOfOneLink → (s : Setting) → IsAccepted s.cfg s.db → (k : ℕ) (r : Role) (end : End) → LinkEnd s k r end → PortAt s k r end
 port_of_end ports s accepted k r end at = subst (PortAt s k r) at.end_is (port_by ports s accepted k r at.link at.there)
 
--- of an end of a link
+-- for an end of a link
 pub port_at_end : PortIsOfOneLink → (s : Setting) → IsAccepted s.cfg s.db → (k : ℕ) (r : Role) (end : End) → end_at s k r ≡ Some end → PortAt s k r end
 port_at_end ports s accepted k r end is = port_of_end ports s accepted k r end (link_end s k r end is)
 
--- of a port that is one
+-- for a port that is at an end of a link
 pub port_at_place : PortIsOfOneLink → (s : Setting) → IsAccepted s.cfg s.db → (n p : ℕ) (place : Place) → place_of s n p ≡ Some place → PortAt s place.link place.role (end_with n p)
 port_at_place ports s accepted n p place is = port_of_end ports s accepted place.link place.role (end_with n p) (place_end s n p place is)
 

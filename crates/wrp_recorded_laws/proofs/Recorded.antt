@@ -1,4 +1,4 @@
--- Each input that a node was given in a run stands in a line that reads back.
+-- Each input that a node was given in a run has a line that reads back.
 use Rattle.std.proofs.Common.{◌≡◌, refl, sym, subst, ℕ, ℤ, ◌==◌, Bool, true, false, if◌then◌else◌, List, [], ◌∷◌, arith}
 use Rattle.std.specs.List.{AllByRecursion}
 use Rattle.std.proofs.lemmas.Bool.{eqb-true}

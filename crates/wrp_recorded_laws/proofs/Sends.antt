@@ -26,7 +26,7 @@ use Rattle.wrp_port.specs.LineAfter.{announces_on, requests_on, syncs_on, ticked
 use Rattle.wrp_port.specs.Messages.{announce_of, next_id, request_of, signals_of, sync_of}
 use Rattle.wrp_port.specs.Outputs.{link_sends, response_to, scheduled_sends, sends_of, sends_unless, where_due}
 
--- the sequenceId of a message whose sending is told to its node
+-- the sequenceId of a message whose sending is reported to its node
 abbrev pub HasShortId : Body → ℕ → Type 0
 HasShortId (Sync origin) seq = seq < 2 ^ 16
 HasShortId (DelayReq origin) seq = seq < 2 ^ 16

@@ -5,7 +5,7 @@ use Rattle.wrp_course.specs.declared.event.Event.{Event}
 use Rattle.wrp_course.specs.declared.event.Event.TheVariants.{Sample, Depart, Arrive, Noise}
 use Rattle.wrp_course.specs.EventAt.{IsRaw, IsTime}
 
--- octets that a frame has room for
+-- octets that fit in a frame
 pub record FitsFrame (octets : List ℕ) : Type 0 where
   pub each : AreOctets octets
   pub few : length octets ≤ 256

@@ -18,7 +18,7 @@ abbrev pub AllSaidByLines : NetCfg → List Happened → Type 0
 AllSaidByLines cfg events =
     AllByRecursion (λ (h : Happened). (line : List ℕ) × (event_read cfg line ≡ Ok h.event)) events
 
--- events of an accepted network, fewer than 2^32 and the newest first, that lines say, each of which kept
+-- events of an accepted network, fewer than 2^32 and the newest first, that lines say; each of them kept
 -- all premises when it came
 pub record IsSaidRun (s : Setting) (events : List Happened) : Type 0 where
   pub network : IsAccepted s.cfg s.db
@@ -31,7 +31,7 @@ pub record IsRecorded (site : LineSetting) (x : Input) : Type 0 where
   pub reads : read_of site (line_of site x) ≡ Ok x
   pub size : length (line_of site x) ≤ 8_192
 
--- in every such run the line of each input that a node was given reads back as that input
+-- in every such run, the line of each input that a node was given reads back as that input
 abbrev pub InputsAreRecorded : Type 0
 InputsAreRecorded =
     (s : Setting) (events : List Happened) (n : ℕ) → IsSaidRun s events →

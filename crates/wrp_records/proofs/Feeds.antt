@@ -29,14 +29,14 @@ none_before (octet ∷ octets) =
       | false ↦ λ is. let later : HasNoFeed (take (feed_at octets) octets) = none_before octets in simp (is, one_more_taken) (refl, later)
     ] refl
 
--- where the search finds no LF, there is none
+-- if the search finds no LF, there is none
 pub none_anywhere : (octets : List ℕ) → position (λ octet. octet == 10) octets ≡ None → HasNoFeed octets
 none_anywhere octets none =
     let past : length octets ≤ feed_at octets = grind (arith, nat_tests) in
     let all : take (feed_at octets) octets ≡ octets = grind (arith, common_steps) in
     subst HasNoFeed all (none_before octets)
 
--- where it finds one, a whole line stands up to it
+-- if it finds one, the octets up to and including it are a whole line
 pub whole_at : (octets : List ℕ) (at : ℕ) → position (λ octet. octet == 10) octets ≡ Some at → (at + 1 ≤ length octets) × IsWhole (take (at + 1) octets)
 whole_at octets at found =
     let there : feed_at octets ≡ at = grind (arith, nat_tests) in
@@ -51,7 +51,7 @@ whole_at octets at found =
       },
     )
 
--- a whole line behind octets without an LF
+-- octets without an LF, followed by a whole line
 pub whole_behind : (octets line : List ℕ) → HasNoFeed octets → IsWhole line → IsWhole (octets ++ line)
 whole_behind octets line plain whole = record {
   front = octets ++ whole.front;
@@ -76,7 +76,7 @@ lines_of-open (octet ∷ next ∷ octets) some plain =
     let rest : lines_of (next ∷ octets) ≡ (next ∷ octets) ∷ [] = lines_of-open (next ∷ octets) (omega arith) plain.1 in
     simp (other, rest) refl
 
--- octets without an LF count whole
+-- all octets of a text without an LF count
 pub size_plain : (octets : List ℕ) → HasNoFeed octets → feed_at octets ≡ length octets
 size_plain [] plain = refl
 size_plain (octet ∷ octets) plain =
@@ -84,6 +84,6 @@ size_plain (octet ∷ octets) plain =
     let later : feed_at octets ≡ length octets = size_plain octets plain.1 in
     simp (other, later) (omega arith)
 
--- where the search finds an LF, so many octets stand before it
+-- if the search finds an LF, this many octets come before it
 pub size_found : (octets : List ℕ) (at : ℕ) → position (λ octet. octet == 10) octets ≡ Some at → at ≡ feed_at octets
 size_found octets at found = grind (arith, nat_tests)

@@ -1,4 +1,4 @@
--- The first LF, by two ways to say which octet is the first.
+-- The first LF, given by two definitions of the first octet.
 use Rattle.std.proofs.Common.{◌≡◌, ◌==◌, ℕ, zero, suc, ◌<◌, true, false, Option, None, Some, List, [], ◌∷◌, length, refl, arith}
 use Rattle.std.specs.List.{position}
 use Rattle.std.proofs.lemmas.Bool.{false_from_ne_true}

@@ -8,7 +8,7 @@ use Rattle.wrp_records.specs.Lines.{content_of, without_return, HasNoFeed, IsWho
 use Rattle.wrp_records.specs.Stream.{IsWithin}
 use Rattle.wrp_records.proofs.Feeds.{feed_at}
 
--- what a whole line says, and the LF or the CR and the LF behind it
+-- what a whole line says, followed by an LF, or by a CR and an LF
 abbrev pub Ends : List ℕ → List ℕ → Type 0
 Ends line said = (line ≡ said ++ 10 ∷ []) ⊎ (line ≡ said ++ 13 ∷ 10 ∷ [])
 
@@ -56,7 +56,7 @@ starts_by octets line parts whole is =
           subst StartsPlain (sym all) (starts_said (content_of line) (13 ∷ 10 ∷ rest) is)
     ]
 
--- how many octets stand before the LF of a whole line
+-- how many octets come before the LF of a whole line
 feed_behind : (front : List ℕ) → HasNoFeed front → feed_at (front ++ 10 ∷ []) ≡ length front
 feed_behind [] plain = refl
 feed_behind (octet ∷ octets) plain =
@@ -71,7 +71,7 @@ whole_within line whole small =
     let before : feed_at line ≡ length whole.front = ap feed_at whole.is ∙ feed_behind whole.front whole.plain in
     omega arith
 
--- the first octets, and those behind them
+-- the first octets, and the octets after them
 pub front_is : (octets : List ℕ) (size : ℕ) → size ≤ length octets → octets ≡ take size octets ++ drop (length (take size octets)) octets
 front_is octets size within =
     let short : length (take size octets) ≡ min size (length octets) = length-take size octets in
@@ -84,11 +84,11 @@ front_within octets size whole small =
     let short : length (take size octets) ≡ min size (length octets) = length-take size octets in
     whole_within (take size octets) whole (omega (arith, short, small))
 
--- what stands behind a line of some octets that stand behind others
+-- the rest after a line of some octets that follow other octets
 pub left_behind : (octets left line : List ℕ) (at : ℕ) → left ≡ drop at octets → left ≡ line ++ drop (length line) left → drop (length line) left ≡ drop (at + length line) octets
 left_behind octets left line at is parts = ap (drop (length line)) is ∙ drop-drop (length line) at octets
 
--- the place behind the line is one of the octets
+-- the place after the line is within the octets
 pub place_behind : (octets left line : List ℕ) (at : ℕ) → at ≤ length octets → left ≡ drop at octets → left ≡ line ++ drop (length line) left → at + length line ≤ length octets
 place_behind octets left line at within is parts =
     let size : length left ≡ length line + length (drop (length line) left) = ap length parts ∙ length-append line (drop (length line) left) in

@@ -1,4 +1,5 @@
--- A line says what its parts say, a line without parts has no fields, and what a refusal says of a line.
+-- A line says what its parts say; a line without parts has no fields; and what a refusal says about a
+-- line.
 use Rattle.std.proofs.Common.{◌≡◌, ◌∙◌, ap, ap₂, sym, refl, ℕ, false, Result, Err, List, [], ◌++◌}
 use Rattle.std.proofs.lemmas.Bool.{false_from_ne_true}
 use Rattle.csv.specs.Records.{Row, fields_of}
@@ -28,7 +29,7 @@ read_fault read (Number field) real is = sym is
 read_fault read (Name field) real is = sym is
 read_fault read (Memory cause) real is = absurd (cc)
 
--- a refusal for a fault is that of a line which is no record, and nothing but the line that names it is appended
+-- a refusal for a fault is about a line that is no record, and only the line that names the fault is appended
 pub refused_line : (fault : TraceFault) (number count : ℕ) (old new : List ℕ) (taken : Taken) (refusal : Refusal) → RefusesLine fault number old new taken → taken ≡ Refused refusal →
     old ≡ [] → number ≡ count → (BadTrace ≡ refusal) × (new ≡ bad_trace_line count fault)
 refused_line fault number count old new taken refusal refuses is none counts =

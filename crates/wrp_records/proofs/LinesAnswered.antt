@@ -1,4 +1,5 @@
--- For the lines of some records a status and octets are due, where each line behind others is decided, and the end too.
+-- A status and octets are expected for the lines of some records, if each line after others is decided, and the end
+-- is too.
 use Rattle.std.proofs.Common.{◌⊎◌, inl, inr, refl, sym, subst, ℕ, ◌+◌, ◌<◌, List, [], ◌∷◌, ◌++◌, append_assoc, length, length-append, map, arith}
 use Rattle.std.specs.List.{AllByRecursion}
 use Rattle.std.proofs.lemmas.Bool.{cases_lt}
@@ -14,7 +15,7 @@ use Rattle.wrp_records.specs.Stream.{Handles, IsTooLarge, IsWithin, large_line, 
 use Rattle.wrp_records.proofs.Unique.{EndsWith}
 use Rattle.wrp_records.specs.RecordsAnswer.{HasAnswer}
 
--- a line more is a record, and writes more
+-- one more line is a record, and writes more
 abbrev pub GoesOn : LineMeaning → List (List ℕ) → (line text : List ℕ) → Type 0
 GoesOn M lines line text = (more : List ℕ) × M.accepts (lines ++ line ∷ []) (text ++ more)
 
@@ -22,11 +23,11 @@ GoesOn M lines line text = (more : List ℕ) × M.accepts (lines ++ line ∷ [])
 abbrev pub Refused : LineMeaning → List (List ℕ) → List ℕ → Type 0
 Refused M lines line = (refusal : Refusal) × (last : List ℕ) × M.refuses lines line refusal last
 
--- behind all lines something is written, or breaks off
+-- after all lines something is written, or breaks off
 abbrev pub Ends : LineMeaning → List (List ℕ) → Type 0
 Ends M lines = (status : Status) × (last : List ℕ) × EndsWith M lines status last
 
--- no lines are records, each line behind records is a record or is refused, and the end is decided
+-- no lines are records, each line after records is a record or is refused, and the end is decided
 pub record IsTotal (M : LineMeaning) : Type 0 where
   pub starts : M.accepts [] []
   pub decides : (lines : List (List ℕ)) (line text : List ℕ) → M.accepts lines text → GoesOn M lines line text ⊎ Refused M lines line
@@ -76,6 +77,6 @@ from_line M total (line ∷ rest) before text sizes count accepted =
       ]
     ]
 
--- so for all lines an answer is due
+-- so an answer is expected for all lines
 pub lines_answered : (M : LineMeaning) → IsTotal M → (lines : List (List ℕ)) → HasAnswer M lines
 lines_answered M total lines = from_line M total lines [] [] tt (omega arith) total.starts

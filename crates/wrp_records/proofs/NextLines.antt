@@ -1,4 +1,4 @@
--- The next line of octets that go on, whole or cut.
+-- The next line of octets that continue, whole or cut.
 use Rattle.std.proofs.Common.{◌≡◌, inl, inr, true, false, ℕ, ◌<◌, ◌==◌, List, [], ◌∷◌, ◌++◌, length, refl, sym, ap, ◌∙◌, subst, append-nil, arith}
 use Rattle.wrp_records.specs.Lines.{lines_of, HasNoFeed}
 use Rattle.wrp_records.specs.Reader.{ReaderAt, IsNext}
@@ -14,7 +14,7 @@ next_line line more r next goes =
           ap (λ l. lines_of (line ++ l)) nothing ∙ ap lines_of (append-nil line) ∙ lines_of-open line end.some end.plain ∙ ap (λ l. line ∷ lines_of l) (sym nothing)
     ]
 
--- a cut line goes on with the input
+-- a cut line continues with the input
 pub cut_line : (cut more : List ℕ) → HasNoFeed cut → 0 < length cut → (tail : List ℕ) × (behind : List (List ℕ)) × (lines_of (cut ++ more) ≡ (cut ++ tail) ∷ behind)
 cut_line [] more plain some = absurd (omega arith)
 cut_line (octet ∷ []) more plain some =

@@ -1,4 +1,4 @@
--- What stands where the handling of lines ends, told of all octets that come.
+-- What the output is when the handling of lines ends, by all octets that come.
 use Rattle.std.proofs.Common.{◌≡◌, ◌⊎◌, inl, inr, true, false, ℕ, Bool, Option, List, [], ◌∷◌, ◌++◌, refl, sym, subst, ap, ◌∙◌, append_assoc, append-nil}
 use Rattle.std.specs.List.{concat}
 use Rattle.std.specs.Io.KnownBytes.{Appends, Consumes, IsAtEnd}
@@ -46,7 +46,7 @@ refused_last L refusal octets r text at =
       last = refl;
     }
 
--- at most one piece stands behind it
+-- at most one piece follows it
 stops_near : (L : LineMeaning) (refusal : Refusal) (status : Status) (octets : List ℕ) (r : ReaderAt) (text : List ℕ) → (at : RefusedAt L.accepts L.refuses refusal octets r text)
     → (LastRefused L refusal (concat at.lines ++ at.line) → LastRefusedAs L status (concat at.lines ++ at.line)) → StopsNear (of_lines L) status octets
 stops_near L refusal status octets r text at means = record {
@@ -57,7 +57,7 @@ stops_near L refusal status octets r text at means = record {
   refused = means (refused_last L refusal octets r text at);
 }
 
--- what was due where the sink failed
+-- what was expected when the sink failed
 abbrev pub PartOf : LineMeaning → List ℕ → Bool → List ℕ → Type 0
 PartOf L octets ended due = ((status : Status) × IsDue (of_lines L) octets ended [] status due) ⊎ IsFirst (of_lines L) octets ended [] due
 
@@ -70,7 +70,7 @@ part_of L octets r BadCalib due at = inl (BadCalib, λ more goes. (refl, broken_
 part_of L octets r OutOfMemory due at = inr (λ more goes. (refl, stands_told L octets r due at more goes))
 part_of L octets r _ due at = absurd at
 
--- what stands
+-- what the output is
 pub lines_passed : (L : LineMeaning) (octets : List ℕ) (r : ReaderAt) (status : Status) (text : List ℕ) → LinesAfter L octets r status text
     → (status ≡ ReadFault → r.ended ≡ false) → After (of_lines L) octets r.ended [] status text
 lines_passed L octets r Done text at goes = (at.end.ended, (refl, at.wholly))
@@ -85,7 +85,7 @@ lines_passed L octets r ReadFault text at goes = (goes refl, refl, at)
 lines_passed L octets r WriteFault text at goes = (at.1, at.2, at.4, part_of L octets r at.0 at.1 at.3)
 lines_passed L octets r _ text at goes = absurd at
 
--- all lines were handled, and what stands behind them was written
+-- all lines were handled, and what follows them was written
 pub passes_closed : (L : LineMeaning) (T : List (List ℕ) → Type 0) (source : Passage (List ℕ)) (held middle now : Option (List ℕ)) (faults faults_between faults_now : ℕ) (rest : List ℕ) (had_ended : Bool) (r : ReaderAt) (status : Status)
     → Handling L.accepts L.refuses T rest r source.before source.now held middle Done → Closed T L status middle now → (r.ended ≡ true → IsAtEnd source.now) → (had_ended ≡ true → r.ended ≡ true)
     → IsSound source → (status ≡ ReadFault → ⊥) → faults_between ≡ faults → (status ≡ WriteFault → Rose faults_between faults_now) → ((status ≡ WriteFault → ⊥) → faults_now ≡ faults_between)
@@ -104,7 +104,7 @@ passes_closed L T source held middle now faults faults_between faults_now rest h
       write = record { failed = λ is. subst (λ (n : ℕ). Rose n faults_now) kept (rose is); sound = λ other. same other ∙ kept };
     }
 
--- the handling of the lines ended before
+-- the handling of the lines ended before that
 pub passes_stopped : (L : LineMeaning) (T : List (List ℕ) → Type 0) (source sink : Passage (List ℕ)) (rest : List ℕ) (had_ended : Bool) (r : ReaderAt) (status : Status)
     → Handling L.accepts L.refuses T rest r source.before source.now sink.before sink.now status → (status ≡ Done → ⊥) → (r.ended ≡ true → IsAtEnd source.now) → (had_ended ≡ true → r.ended ≡ true)
     → (status ≡ ReadFault → r.ended ≡ false) → FailsBy ReadFault status source → FailsBy WriteFault status sink → Passes (of_lines L) source sink rest had_ended r.ended [] status
@@ -120,7 +120,7 @@ passes_stopped L T source sink rest had_ended r status h other at_end stays goes
   write = write;
 }
 
--- nothing was taken or written, for want of memory
+-- nothing was taken or written, because memory ran out
 pub passes_nothing : (L : LineMeaning) (source sink : Passage (List ℕ)) (rest : List ℕ) (ended : Bool) → L.accepts [] [] → Consumes source.before source.now [] → Appends sink.before sink.now []
     → (ended ≡ true → IsAtEnd source.now) → IsSound source → IsSound sink → Passes (of_lines L) source sink rest ended ended [] OutOfMemory
 passes_nothing L source sink rest ended none taken wrote at_end read write = record {

@@ -18,7 +18,7 @@ unfoldable pub passes : (A : Accepting) (T : List (List ℕ) → Type 0) (start 
 passes A T start line r s left rest held now waiting number so_far same ended =
     comes A T start line r s left rest rest held now waiting number so_far ([], Consumes-nil rest, sym same ∙ sym (append-nil r.rest), λ was. (refl, ended ∙ was))
 
--- what a line that follows gives
+-- what a following line gives
 abbrev pub Gives : Accepting → Refusing → (List (List ℕ) → Type 0) → (List (List ℕ) → Type 0) → List ℕ → ℕ → List ℕ → List ℕ → Option Ended → Type 0
 Gives A R T U said number was waiting e = (lines : List (List ℕ)) (before : List ℕ) → T lines → A lines before → number + 1 ≡ length lines + 1 → LineOutcome A R U lines said before was waiting e
 
@@ -32,7 +32,7 @@ pub record Fits (line : List ℕ) (number : ℕ) (s : ReaderAt) : Type 0 where
 counts : (lines : List (List ℕ)) (number : ℕ) → number ≡ length lines → number + 1 ≡ length (map content_of lines) + 1
 counts lines number is = let same : length (map content_of lines) ≡ length lines = length-map _ _ in omega (arith, is, same)
 
--- one line more is handled, or ends the handling
+-- one more line is handled, or ends the handling
 pub goes_by : (A : Accepting) (R : Refusing) (T U : List (List ℕ) → Type 0) (start line said : List ℕ) (r s : ReaderAt) (left rest held now : Option (List ℕ)) (was waiting : List ℕ) (number : ℕ) (e : Option Ended)
     → Reached (Handles A) T start r left rest held now was number → r.rest ≡ line ++ s.rest → s.ended ≡ r.ended → Fits line number s → said ≡ content_of line
     → Gives A R T U said number was waiting e → Comes A R U start s left rest held now waiting (number + 1) e
@@ -45,7 +45,7 @@ goes_by A R T U start line said r s left rest held now was waiting number (Some 
     stopped A R T U start line said s left rest held now was waiting number e here (inl fits.whole, fits.piece, fits.within, fits.below) is
     (gives (map content_of here.lines) here.text here.has here.handled.accepted (counts here.lines number here.count))
 
--- without memory nothing more is due
+-- without memory nothing more is expected
 pub short : (A : Accepting) (R : Refusing) (T : List (List ℕ) → Type 0) (start : List ℕ) (r : ReaderAt) (left rest held now : Option (List ℕ)) (waiting : List ℕ) (number : ℕ)
     → Reached (Handles A) T start r left rest held now waiting number → Stopped A R start r left rest held now waiting OutOfMemory
 short A R T start r left rest held now waiting number so_far = record {

@@ -9,7 +9,7 @@ use Rattle.wrp_fields.specs.Lines.{IsPlainOctet, IsLine}
 use Rattle.wrp_records.specs.Lines.{content_of, IsPlainText, HasNoFeed, IsWhole}
 use Rattle.wrp_records.proofs.LineEnds.{line_ends}
 
--- neither octet is found where the first octet is neither
+-- an octet that is not one of 34 and 13 is neither of them
 neither : (octet : ℕ) → (is_byte2 34 13 octet ≡ true → ⊥) → ((octet == 34) ≡ false) × ((octet == 13) ≡ false)
 neither octet other = elim (cases_Bool (octet == 34)) [
   | inl quote ↦ absurd (other (rw quote refl))
@@ -37,7 +37,7 @@ parts_plain : (front back : List ℕ) → IsPlainText (front ++ back) → IsPlai
 parts_plain [] back text = (tt, text)
 parts_plain (octet ∷ octets) back text = let parts = parts_plain octets back text.1 in ((text.0, parts.0), parts.1)
 
--- octets of a plain text, none of which is an LF
+-- octets of a plain text without an LF
 octets_plain : (octets : List ℕ) → IsPlainText octets → HasNoFeed octets → AllByRecursion IsPlainOctet octets
 octets_plain [] text plain = tt
 octets_plain (octet ∷ octets) text plain = ((text.0.0, text.0.1, plain.0, text.0.2), octets_plain octets text.1 plain.1)
@@ -45,7 +45,7 @@ octets_plain (octet ∷ octets) text plain = ((text.0.0, text.0.1, plain.0, text
 some_octet : (octets : List ℕ) → 0 < length octets → octets ≡ [] → ⊥
 some_octet octets some none = let size : length octets ≡ 0 = ap length none in omega (arith, some, size)
 
--- what a whole line says whose octets are these and an LF
+-- what a whole line says if it consists of these octets and an LF
 said_plain : (line said : List ℕ) → IsWhole line → IsPlainText line → 1 < length line → line ≡ said ++ 10 ∷ [] → IsLine said
 said_plain line said whole text long is =
     let same : whole.front ≡ said = append_cancel_right whole.front said (10 ∷ []) (sym whole.is ∙ is) in
@@ -53,7 +53,7 @@ said_plain line said whole text long is =
     let size : length line ≡ length said + 1 = ap length is ∙ length-append said (10 ∷ []) in
     (some_octet said (omega (arith, long, size)), octets_plain said parts.0 (subst HasNoFeed same whole.plain))
 
--- no CR stands in a plain text
+-- a plain text contains no CR
 no_return : (line said : List ℕ) → IsPlainText line → line ≡ said ++ 13 ∷ 10 ∷ [] → ⊥
 no_return line said text is =
     let parts = parts_plain said (13 ∷ 10 ∷ []) (subst IsPlainText is text) in

@@ -1,4 +1,4 @@
--- How far the handling of records has come, and what stands where it stops.
+-- How far the handling of records has come, and what the output is when it stops.
 use Rattle.std.proofs.Common.{◌≡◌, ◌⊎◌, inl, inr, true, false, ℕ, ◌+◌, ◌<◌, ◌≤◌, Bool, Option, None, Some, List, [], ◌∷◌, ◌++◌, length, map, take, refl, sym, ap, ◌∙◌, subst, append_assoc, append-nil, length-append, arith}
 use Rattle.std.specs.List.{concat, AllByRecursion}
 use Rattle.std.specs.Io.KnownBytes.{Appends, Consumes}
@@ -46,7 +46,7 @@ concat-snoc lines line = concat-append lines (line ∷ []) ∙ ap (λ l. concat 
 pub next_some : (line : List ℕ) (r : ReaderAt) → IsNext line r → 0 < length line
 next_some line r next = elim next [ inl whole ↦ whole_size line whole | inr last ↦ last.some ]
 
--- a line that is cut and passes what is taken of it
+-- a line that is cut and exceeds what is taken of it
 pub large_cut : (line : List ℕ) (r : ReaderAt) (number most : ℕ) → IsCut line r → MostAt number most → most < length line → IsLargeNext line r number
 large_cut line r number most cut at past = (
   inr cut,
@@ -59,7 +59,7 @@ large_cut line r number most cut at past = (
   ],
 )
 
--- a line that is cut and does not pass it
+-- a line that is cut and does not exceed it
 pub cut_within : (line : List ℕ) (r : ReaderAt) (number most : ℕ) → IsCut line r → MostAt number most → length line ≤ most → r.ended ≡ false → IsCutWithin line r number
 cut_within line r number most cut at within goes =
     elim at [
@@ -71,7 +71,7 @@ cut_within line r number most cut at within goes =
 pub large_whole : (line : List ℕ) (r : ReaderAt) (number : ℕ) → IsNext line r → IsTooLarge line number → IsLargeNext line r number
 large_whole line r number next large = (inl next, next_some line r next, large)
 
--- the same, and something was taken behind them
+-- the same, and something was taken after them
 pub record Coming (H : Accepting) (T : List (List ℕ) → Type 0) (start line : List ℕ) (r : ReaderAt) (left rest held now : Option (List ℕ)) (waiting : List ℕ) (number : ℕ) : Type 0 where
   pub given : List ℕ
   pub lines : List (List ℕ)
@@ -151,7 +151,7 @@ writes_on A T start line r left rest held now then_ was will number so_far more 
   count = so_far.count;
 }
 
--- where a line came, those before it are whole
+-- if a line came, the lines before it are whole
 pub whole_before : (A : Accepting) (T : List (List ℕ) → Type 0) (start line : List ℕ) (r : ReaderAt) (left rest held now : Option (List ℕ)) (waiting : List ℕ) (number : ℕ)
     → (so_far : Coming A T start line r left rest held now waiting number) → 0 < length line → AllByRecursion IsWhole so_far.lines
 whole_before A T start line r left rest held now waiting number so_far some =
@@ -160,7 +160,7 @@ whole_before A T start line r left rest held now waiting number so_far some =
       | inr last ↦ let size : length line + length r.rest ≡ 0 = sym (length-append line r.rest) ∙ ap length last.1 in absurd (omega arith)
     ]
 
--- what is written where nothing waits
+-- what is written if nothing waits
 all_written : (A : Accepting) (T : List (List ℕ) → Type 0) (start line : List ℕ) (r : ReaderAt) (left rest held now : Option (List ℕ)) (waiting : List ℕ) (number : ℕ)
     → (so_far : Coming A T start line r left rest held now waiting number) → waiting ≡ [] → Appends held now so_far.text
 all_written A T start line r left rest held now waiting number so_far none =
@@ -185,7 +185,7 @@ ends A R T start line r left rest held now waiting number so_far written last no
       done = λ _. subst (λ (ls : List (List ℕ)). T (map content_of ls)) (sym are) so_far.has;
     }
 
--- where the source failed
+-- if the source failed
 pub fails : (A : Accepting) (R : Refusing) (T : List (List ℕ) → Type 0) (start line : List ℕ) (r : ReaderAt) (left rest held now : Option (List ℕ)) (waiting : List ℕ) (number : ℕ)
     → Coming (Handles A) T start line r left rest held now waiting number → waiting ≡ [] → IsCutWithin line r number → Handling A R T start r left rest held now ReadFault
 fails A R T start line r left rest held now waiting number so_far written cut =
@@ -209,14 +209,14 @@ fails A R T start line r left rest held now waiting number so_far written cut =
       done = λ other. cc;
     }
 
--- a due text of two parts, and what was written of it
+-- an expected text of two parts, and what was written of it
 pub take_two : (front back : List ℕ) (count : ℕ) → front ++ take count back ≡ take (length front + count) (front ++ back)
 take_two front back count =
     ap (λ l. l ++ take count back) (sym (take-append_seam front back))
     ∙ ap (λ l. take (length front) (front ++ back) ++ take count l) (sym (drop-append_seam front back))
     ∙ sym (take-add (length front) count (front ++ back))
 
--- a part of what is due was written
+-- a part of what is expected was written
 unwritten_of : (A : Accepting) (R : Refusing) (U : List (List ℕ) → Type 0) (start : List ℕ) (r : ReaderAt) (left rest held now then_ : Option (List ℕ)) (given out waiting text : List ℕ) (status : Status)
     → Consumes left rest given → Appends held now out → text ≡ out ++ waiting → Due A R (start ++ given) r status text → AppendsPart now then_ waiting
     → Handling A R U start r left rest held then_ WriteFault
@@ -229,7 +229,7 @@ unwritten_of A R U start r left rest held now then_ given out waiting text statu
   done = λ other. cc;
 }
 
--- all that is due was written
+-- everything that is expected was written
 told_of : (A : Accepting) (R : Refusing) (U : List (List ℕ) → Type 0) (start : List ℕ) (r : ReaderAt) (left rest held now then_ : Option (List ℕ)) (given out waiting text : List ℕ) (status : Status)
     → Consumes left rest given → Appends held now out → text ≡ out ++ waiting → Due A R (start ++ given) r status text → Appends now then_ waiting
     → Handling A R U start r left rest held then_ status
@@ -274,7 +274,7 @@ told_of A R U start r left rest held now then_ given out waiting text LinkFault 
 told_of A R U start r left rest held now then_ given out waiting text BadCapture taken written waits due more = absurd due
 told_of A R U start r left rest held now then_ given out waiting text BadCalib taken written waits due more = absurd due
 
--- what is due was written, or the sink failed
+-- what is expected was written, or the sink failed
 finishes : (A : Accepting) (R : Refusing) (U : List (List ℕ) → Type 0) (start : List ℕ) (r : ReaderAt) (left rest held now then_ : Option (List ℕ)) (given out waiting text : List ℕ) (status result : Status)
     → Consumes left rest given → Appends held now out → text ≡ out ++ waiting → Due A R (start ++ given) r status text → Finishes status result now then_ waiting
     → Handling A R U start r left rest held then_ result
@@ -295,7 +295,7 @@ first_of A T start line r left rest held now waiting number so_far = record {
   handled = so_far.handled;
 }
 
--- where the sink failed before the source was asked
+-- if the sink failed before the source was asked
 pub unwritten : (A : Accepting) (R : Refusing) (T U : List (List ℕ) → Type 0) (start line : List ℕ) (r : ReaderAt) (left rest held now then_ : Option (List ℕ)) (waiting : List ℕ) (number : ℕ)
     → Coming (Handles A) T start line r left rest held now waiting number → AppendsPart now then_ waiting → Handling A R U start r left rest held then_ WriteFault
 unwritten A R T U start line r left rest held now then_ waiting number so_far cut =
@@ -355,7 +355,7 @@ refused_at A R T start line said r left rest held now waiting number refusal las
   is = refl;
 }
 
--- without memory nothing more is due
+-- without memory nothing more is expected
 pub stops_short : (A : Accepting) (R : Refusing) (T : List (List ℕ) → Type 0) (start line : List ℕ) (r : ReaderAt) (left rest held now : Option (List ℕ)) (was waiting : List ℕ) (number : ℕ)
     → Coming (Handles A) T start line r left rest held now was number → waiting ≡ was → Stopped A R start r left rest held now waiting OutOfMemory
 stops_short A R T start line r left rest held now was waiting number so_far same = record {
@@ -368,7 +368,7 @@ stops_short A R T start line r left rest held now was waiting number so_far same
   due = first_of A T start line r left rest held now was number so_far;
 }
 
--- where a line's handling ends the run
+-- if a line's handling ends the run
 pub stopped : (A : Accepting) (R : Refusing) (T U : List (List ℕ) → Type 0) (start line said : List ℕ) (r : ReaderAt) (left rest held now : Option (List ℕ)) (was waiting : List ℕ) (number : ℕ) (e : Ended)
     → (so_far : Coming (Handles A) T start line r left rest held now was number) → IsNext line r × (length r.rest ≤ piece_limit) × IsWithin line × (number + 1 < number_limit)
     → said ≡ content_of line → LineOutcome A R U (map content_of so_far.lines) said so_far.text was waiting (Some e)
@@ -395,13 +395,13 @@ stopped A R T U start line said r left rest held now was waiting number ended.Me
     stops_short A R T start line r left rest held now was waiting number so_far same
 stopped A R T U start line said r left rest held now was waiting number ended.TooLarge so_far next is never = absurd never
 
--- what is due is written, or the sink fails
+-- what is expected is written, or the sink fails
 pub closes_by : (A : Accepting) (R : Refusing) (U : List (List ℕ) → Type 0) (start : List ℕ) (r : ReaderAt) (left rest held now then_ : Option (List ℕ)) (waiting : List ℕ) (status result : Status)
     → Stopped A R start r left rest held now waiting status → Finishes status result now then_ waiting → Handling A R U start r left rest held then_ result
 closes_by A R U start r left rest held now then_ waiting status result at_end how =
     finishes A R U start r left rest held now then_ at_end.given at_end.out waiting at_end.text status result at_end.taken at_end.written at_end.waits at_end.due how
 
--- where a line's handling ends the run, and what is due is written, or the sink fails
+-- if a line's handling ends the run, and what is expected is written, or the sink fails
 pub stops : (A : Accepting) (R : Refusing) (T U : List (List ℕ) → Type 0) (start line said : List ℕ) (r : ReaderAt) (left rest held now then_ : Option (List ℕ)) (was waiting : List ℕ) (number : ℕ) (e : Ended) (result : Status)
     → (so_far : Coming (Handles A) T start line r left rest held now was number) → IsNext line r × (length r.rest ≤ piece_limit) × IsWithin line × (number + 1 < number_limit)
     → said ≡ content_of line → LineOutcome A R U (map content_of so_far.lines) said so_far.text was waiting (Some e)
@@ -463,11 +463,11 @@ goes_on A R T U start line said r left rest held now was waiting number so_far n
       accepted = subst (λ (ls : List (List ℕ)). A ls (so_far.text ++ more.0)) said_all more.3;
     }) more.1
 
--- a fact of equal things
+-- what holds of one of two equal things holds of the other
 pub moved : {X : Type 0} (P : X → Type 0) (s t : X) → s ≡ t → P s → P t
 moved {X} P s t e p = subst (λ (x : X). P x) e p
 
--- what a status tells of the faults, where the last of a text was written behind other writes
+-- what a status says of the faults, if the last part of a text was written after other writes
 pub told_by_finish : (status : Status) (read read_now write mid write_now : ℕ) (ended : Bool) → read_now ≡ read → mid ≡ write
     → (status ≡ WriteFault → Rose mid write_now) → ((status ≡ WriteFault → ⊥) → write_now ≡ mid)
     → ((status ≡ Done → ⊥) × (status ≡ ReadFault → ⊥) × (status ≡ Usage → ⊥) × (status ≡ BadNetwork → ⊥) × (status ≡ LinkFault → ⊥) × (status ≡ BadCapture → ⊥) × (status ≡ BadCalib → ⊥))

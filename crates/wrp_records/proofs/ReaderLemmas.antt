@@ -6,7 +6,7 @@ use Rattle.std.specs.Io.KnownBytes.{Consumes}
 use Rattle.wrp_records.specs.declared.reader.Next.{Next}
 use Rattle.wrp_records.specs.Reader.{GivesOn, ReaderAt, Takes}
 
--- what was given behind some octets, and what is held behind it, are what was held
+-- what was given after some octets, and what is held after it, are what was held
 pub held_on : (piece before after : List ℕ) (at size end : ℕ) → size ≤ length (take (end - at) (drop at piece))
     → after ≡ before ++ take size (take (end - at) (drop at piece))
     → after ++ take (end - (at + size)) (drop (at + size) piece) ≡ before ++ take (end - at) (drop at piece)
@@ -21,7 +21,7 @@ held_on piece before after at size end within is =
     ∙ append_assoc before (take size held) (take (end - (at + size)) (drop (at + size) piece))
     ∙ ap (λ l. before ++ (take size held ++ l)) (sym back) ∙ ap (λ l. before ++ l) (take-append-drop size held)
 
--- what is held where some of it is passed
+-- what is held if some of it is passed
 pub passed_on : (piece : List ℕ) (at size end : ℕ) → size ≤ length (take (end - at) (drop at piece))
     → take (end - (at + size)) (drop (at + size) piece) ≡ drop size (take (end - at) (drop at piece))
 passed_on piece at size end within =
@@ -57,6 +57,6 @@ takes_on first mid now held line after ended r s so_far more = (
       (ap (λ l. l ++ more.0) none.0 ∙ further.0, further.1),
 )
 
--- what ends the reading, at this answer
+-- what ends the reading, for this answer
 pub given_on : (n m : Next) (line : List ℕ) (r : ReaderAt) (most : ℕ) → GivesOn n line r most → n ≡ m → GivesOn m line r most
 given_on n m line r most how is = subst (λ (x : Next). GivesOn x line r most) is how

@@ -1,4 +1,4 @@
--- What stands where the handling of records ends, told of the whole input.
+-- What the output is when the handling of records ends, by the whole input.
 use Rattle.std.proofs.Common.{◌≡◌, ◌⊎◌, inl, inr, true, false, ℕ, ◌+◌, ◌≤◌, ◌==◌, Option, List, [], ◌∷◌, ◌++◌, length, map, take, refl, sym, ap, ◌∙◌, subst, append_assoc, append-nil, arith}
 use Rattle.std.specs.List.{concat}
 use Rattle.std.specs.Io.KnownBytes.{Appends, Consumes}
@@ -17,7 +17,7 @@ use Rattle.wrp_records.proofs.Feeds.{size_plain}
 use Rattle.wrp_records.proofs.NextLines.{next_line, cut_line}
 use Rattle.wrp_records.proofs.Reaching.{lines_behind, take_two}
 
--- a cut line that goes on has at least its octets
+-- a cut line that continues has at least the octets it had
 size_grows : (cut tail : List ℕ) → HasNoFeed cut → length cut ≤ size_of (cut ++ tail)
 size_grows [] tail plain = omega arith
 size_grows (octet ∷ cut) tail plain =
@@ -104,7 +104,7 @@ done_told M octets r text at more goes =
     let same : lines_of octets ≡ lines_of (octets ++ more) = ap lines_of (sym (ap (λ l. octets ++ l) (goes at.end.ended) ∙ append-nil octets)) in
     subst (λ (ls : List (List ℕ)). IsWholly M ls text) same at.wholly
 
--- what breaks off behind all lines
+-- what breaks off after all lines
 pub broken_told : (M : LineMeaning) (status : Status) (octets : List ℕ) (r : ReaderAt) (text : List ℕ) → BrokenAt M octets r status text
     → (more : List ℕ) → (r.ended ≡ true → more ≡ []) → BreaksOff M status (lines_of (octets ++ more)) text
 broken_told M status octets r text at more goes =
@@ -121,7 +121,7 @@ pub stands_told : (M : LineMeaning) (octets : List ℕ) (r : ReaderAt) (text : L
 stands_told M octets r text (inl at) more goes = inl (first_told M octets r text at more goes)
 stands_told M octets r text (inr at) more goes = inr (broken_told M OutOfMemory octets r text at more goes)
 
--- what is due before the end
+-- what is expected before the end
 due_before : (M : LineMeaning) (octets : List ℕ) (r : ReaderAt) (status : Status) (text : List ℕ) → Due M.accepts M.refuses octets r status text → DueAt M octets r status text
 due_before M octets r Done text at = absurd at
 due_before M octets r BadTrace text at = at
@@ -130,7 +130,7 @@ due_before M octets r TooLarge text at = inl at
 due_before M octets r OutOfMemory text at = inl at
 due_before M octets r _ text at = absurd at
 
--- what stands before the end
+-- what the output is before the end
 pub outcome_after : (M : LineMeaning) (octets : List ℕ) (r : ReaderAt) (status : Status) (text : List ℕ) → Outcome M.accepts M.refuses octets r status text
     → (status ≡ Done → ⊥) → LinesAfter M octets r status text
 outcome_after M octets r Done text at other = absurd (other refl)
@@ -155,7 +155,7 @@ all_lines (octet ∷ octets) =
       | false ↦ λ is. simp is (onto_all octet (lines_of octets) ∙ ap (λ l. octet ∷ l) (all_lines octets))
     ] refl
 
--- all handled lines are some first ones
+-- all handled lines are some first lines
 pub all_first : (M : LineMeaning) (octets : List ℕ) (r : ReaderAt) (text : List ℕ) → IsLast r × Handles M.accepts (lines_of octets) text → FirstHandled M.accepts octets r text
 all_first M octets r text at = record {
   lines = lines_of octets;
@@ -173,7 +173,7 @@ at_end_done M octets r written last at closed = record {
   wholly = record { written = written; last = last; handled = at.1; closed = closed; is = refl };
 }
 
--- where the last lines are written, or a part of them
+-- if the last lines are written, or a part of them
 pub at_end_answered : (M : LineMeaning) (end : Status) (rest given : List ℕ) (first last held now then_ : Option (List ℕ)) (r : ReaderAt) (written text : List ℕ) (status : Status)
     → Consumes first last given → Appends held now written → DueAt M (rest ++ given) r end (written ++ text) → LinesAfter M (rest ++ given) r end (written ++ text) → Finishes end status now then_ text
     → (g : List ℕ) × (octets : List ℕ) × Consumes first last g × Appends held then_ octets × LinesAfter M (rest ++ g) r status octets
@@ -196,7 +196,7 @@ at_end_answered M end rest given first last held now then_ r written text status
       )
     ]
 
--- what closes the records, with its status, is due behind what they write
+-- what closes the records, with its status, is expected after what they write
 with_status : (M : LineMeaning) (octets : List ℕ) (r : ReaderAt) (written last : List ℕ) (end : Status) → IsLast r × Handles M.accepts (lines_of octets) written
     → ClosesWith M end (map content_of (lines_of octets)) last → DueAt M octets r end (written ++ last) × LinesAfter M octets r end (written ++ last)
 with_status M octets r written last Done at closing = (at_end_done M octets r written last at closing, at_end_done M octets r written last at closing)
@@ -211,7 +211,7 @@ with_status M octets r written last BadCalib at closing =
     (breaks, breaks)
 with_status M octets r written last _ at closing = absurd closing
 
--- where what closes the records is written, whole or as far as it goes, or a part of that
+-- if what closes the records is written, whole or as far as it goes, or a part of that
 pub closed_so : (M : LineMeaning) (T : List (List ℕ) → Type 0) (rest given written : List ℕ) (first last held mid now : Option (List ℕ)) (r : ReaderAt) (status : Status)
     → Consumes first last given → Appends held mid written → IsLast r × Handles M.accepts (lines_of (rest ++ given)) written → T (map content_of (lines_of (rest ++ given)))
     → Closed T M status mid now
@@ -227,7 +227,7 @@ closed_so M T rest given written first last held mid now r status taken wrote st
     let due = with_status M (rest ++ given) r written how.1 how.0 stands (how.2 (map content_of (lines_of (rest ++ given))) has) in
     at_end_answered M how.0 rest given first last held mid now r written how.1 status taken wrote due.0 due.1 how.3
 
--- where nothing was handled for want of memory
+-- if nothing was handled because memory ran out
 pub nothing_handled : (M : LineMeaning) (octets : List ℕ) (r : ReaderAt) → M.accepts [] [] → LinesAfter M octets r OutOfMemory []
 nothing_handled M octets r none = inl (record {
   lines = [];

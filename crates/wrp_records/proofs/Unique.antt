@@ -1,4 +1,4 @@
--- For the lines of some records one status and one text are due, where the machine is exact.
+-- One status and one text are expected for the lines of some records, if the machine is exact.
 use Rattle.std.proofs.Common.{◌≡◌, ◌⊎◌, inl, inr, ℕ, ◌+◌, ◌<◌, ◌≤◌, List, [], ◌∷◌, ◌++◌, length, map, refl, sym, ap, ap₂, ◌∙◌, subst, length-append, arith}
 use Rattle.std.specs.List.{AllByRecursion}
 use Rattle.std.proofs.lemmas.List.{map-append}
@@ -11,14 +11,14 @@ use Rattle.wrp_records.specs.Stream.{Accepting, Refusing, Handles, IsWithin, siz
 use Rattle.wrp_records.specs.LineMeaning.{LineMeaning, bars_none, breaks_by, meaning_by}
 use Rattle.wrp_records.specs.RecordsAnswer.{RecordsAnswer}
 
--- what stands at the end behind all lines, whole, or broken off where a number is too great
+-- what is written at the end, after all lines: whole, or broken off if a number is too great
 abbrev pub EndsWith : LineMeaning → List (List ℕ) → Status → List ℕ → Type 0
 EndsWith M lines Done text = M.closes lines text
 EndsWith M lines TooLarge text = M.breaks_off lines TooLarge text
 EndsWith M lines BadCalib text = M.breaks_off lines BadCalib text
 EndsWith M lines _ text = ⊥
 
--- where it never breaks off
+-- if it never breaks off
 pub ends_once : (M : LineMeaning) → ((lines : List (List ℕ)) (status : Status) (text : List ℕ) → M.breaks_off lines status text → ⊥) → ((lines : List (List ℕ)) (t u : List ℕ) → M.closes lines t → M.closes lines u → t ≡ u)
     → (lines : List (List ℕ)) (a b : Status) (t u : List ℕ) → EndsWith M lines a t → EndsWith M lines b u → (a ≡ b) × (t ≡ u)
 ends_once M never one lines Done Done t u p q = (refl, one lines t u p q)
@@ -29,12 +29,12 @@ ends_once M never one lines TooLarge b t u p q = absurd (never lines TooLarge t 
 ends_once M never one lines BadCalib b t u p q = absurd (never lines BadCalib t p)
 ends_once M never one lines _ b t u p q = absurd p
 
--- where no lines give no answer
+-- if no lines fail to give an answer
 pub never_barred : (lines : List (List ℕ)) (status : Status) (text : List ℕ) → breaks_by bars_none lines status text → ⊥
 never_barred lines BadCalib text is = is
 never_barred lines status text is = is
 
--- where a machine's lines are closed in one way, or give no answer in one way, and never both
+-- if a machine's lines are closed in one way, or give no answer in one way, and never both
 pub closes_once : (A : Accepting) (R : Refusing) (C B : Accepting) → ((lines : List (List ℕ)) (t u : List ℕ) → C lines t → C lines u → t ≡ u)
     → ((lines : List (List ℕ)) (t u : List ℕ) → B lines t → B lines u → t ≡ u) → ((lines : List (List ℕ)) (t u : List ℕ) → C lines t → B lines u → ⊥)
     → (lines : List (List ℕ)) (a b : Status) (t u : List ℕ) → EndsWith (meaning_by A R C B) lines a t → EndsWith (meaning_by A R C B) lines b u → (a ≡ b) × (t ≡ u)
@@ -60,7 +60,7 @@ Stops M before line Broken last = IsWithin line × (length before + 1 < number_l
 Stops M before line TooLarge last = ((line_limit < size_of line) ⊎ (length before + 1 ≡ number_limit)) × (last ≡ large_line (length before + 1))
 Stops M before line _ last = ⊥
 
--- where it stops
+-- if it stops
 pub record Stopped (M : LineMeaning) (lines : List (List ℕ)) (status : Status) (octets : List ℕ) : Type 0 where
   pub before : List (List ℕ)
   pub line : List ℕ
@@ -72,7 +72,7 @@ pub record Stopped (M : LineMeaning) (lines : List (List ℕ)) (status : Status)
   pub stops : Stops M before line status last
   pub is : octets ≡ written ++ last
 
--- where it comes to the end of the lines
+-- if it comes to the end of the lines
 record Ended (M : LineMeaning) (lines : List (List ℕ)) (status : Status) (octets : List ℕ) : Type 0 where
   written : List ℕ
   last : List ℕ
@@ -80,7 +80,7 @@ record Ended (M : LineMeaning) (lines : List (List ℕ)) (status : Status) (octe
   ends : EndsWith M (map content_of lines) status last
   is : octets ≡ written ++ last
 
--- an answer comes to the end, or it stops
+-- an answer comes to the end, or stops
 answer_is : (M : LineMeaning) (lines : List (List ℕ)) (status : Status) (octets : List ℕ)
     → RecordsAnswer M lines status octets
     → Ended M lines status octets ⊎ Stopped M lines status octets
@@ -92,7 +92,7 @@ answer_is M lines TooLarge octets (inr p) = inl (record { written = p.written; l
 answer_is M lines BadCalib octets p = inl (record { written = p.written; last = p.last; handled = p.handled; ends = p.broken; is = p.is })
 answer_is M lines _ octets p = absurd p
 
--- of two places in one list one is before the other, or they are one
+-- of two places in one list, one is before the other, or they are the same
 places : (p q b c : List (List ℕ)) (x y : List ℕ) → p ++ x ∷ b ≡ q ++ y ∷ c
     → ((p ≡ q) × (x ≡ y)) ⊎ (((m : List (List ℕ)) × (q ≡ p ++ x ∷ m)) ⊎ ((m : List (List ℕ)) × (p ≡ q ++ y ∷ m)))
 places [] [] b c x y e = inl (refl, cc)
@@ -147,7 +147,7 @@ one_stop M exact p x t u Broken _ f g = absurd g
 one_stop M exact p x t u TooLarge _ f g = absurd g
 one_stop M exact p x t u _ b f g = absurd f
 
--- one status and one text are due
+-- one status and one text are expected
 pub one_records_answer : (M : LineMeaning) → IsExact M
     → (lines : List (List ℕ)) (a b : Status) (t u : List ℕ) → RecordsAnswer M lines a t → RecordsAnswer M lines b u → (a ≡ b) × (t ≡ u)
 one_records_answer M exact lines a b t u f g =

@@ -28,12 +28,12 @@ digits_pass p high (suc k) n acc h =
     let more : list_all p (glyph ∷ acc) ≡ true = and_from (p glyph) (list_all p acc) (high glyph (glyph_least (nat_lt (n % 10) 10) (n % 10))) h in
     either_passes p (n / 10 == 0) (glyph ∷ acc) (digits_onto k 10 false (n / 10) (glyph ∷ acc)) more (digits_pass p high k (n / 10) (glyph ∷ acc) more)
 
--- where all octets from 33 on pass a test, those of a number do
+-- if all octets from 33 on pass a test, the octets of a number pass it
 pub decimal_passes : (p : ℕ → Bool) → ((c : ℕ) → 33 ≤ c → p c ≡ true) → (n : ℕ) → list_all p (decimal n) ≡ true
 unfolding digits
 decimal_passes p high n = digits_pass p high 64 n [] refl
 
--- also where it is below 0
+-- also if the number is below 0
 pub signed_passes : (p : ℕ → Bool) → ((c : ℕ) → 33 ≤ c → p c ≡ true) → (z : ℤ) → list_all p (signed_decimal z) ≡ true
 signed_passes p high (pos n) = decimal_passes p high n
 signed_passes p high (negsuc n) = and_from (p 45) (list_all p (decimal (suc n))) (high 45 (omega arith)) (decimal_passes p high (suc n))
@@ -52,7 +52,7 @@ signed_word z = signed_passes is_word_octet word_octet z
 pub onto_word : (c : ℕ) (cs : List ℕ) → is_word_octet c ≡ true → IsWord cs → IsWord (c ∷ cs)
 onto_word c cs h k = and_from (is_word_octet c) (list_all is_word_octet cs) h k
 
--- of two words either is one
+-- whichever of two words is chosen is a word
 pub either_word : (b : Bool) (one other : List ℕ) → IsWord one → IsWord other → IsWord (if b then one else other)
 either_word b one other h k = either_passes is_word_octet b one other h k
 
@@ -87,7 +87,7 @@ fault_word (Number field) = refl
 fault_word (Name field) = refl
 fault_word (Memory e) = refl
 
--- so has the line that names a record which is refused
+-- so has the line that names a record that is refused
 pub trace_line_whole : (number : ℕ) (fault : TraceFault) → IsWhole (bad_trace_line number fault)
 trace_line_whole number fault =
     line_whole (codes "bad-trace" ∷ decimal number ∷ decimal (code_of fault) ∷ name_of fault ∷ decimal (field_of fault) ∷ [])

@@ -22,7 +22,8 @@ LastRefusedAs L BadTrace octets = LastRefused L refusals.BadTrace octets
 LastRefusedAs L Broken octets = LastRefused L refusals.Broken octets
 LastRefusedAs L status octets = ⊥
 
--- the meaning of lines, by what they and the calls of a link mean: no call is made where a line is refused
+-- the meaning of lines, by what the lines and the calls of a link mean: no call is made if a line is
+-- refused
 abbrev pub of_lines : LineMeaning → Meaning
 of_lines L = record {
   answers = λ octets calls status text. (calls ≡ []) × RecordsAnswer L (lines_of octets) status text;

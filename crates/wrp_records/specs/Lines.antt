@@ -1,5 +1,5 @@
--- Lines of octets: each ends with LF, and the last may lack it; one CR before the LF belongs to the
--- line's end (this project's profile).
+-- Lines of octets: each ends with LF, but the last may have none; one CR before the LF belongs to
+-- the line's end (this project's profile).
 use Rattle.std.specs.Prelude.{◌≡◌, ◌<◌, false, ℕ, if◌then◌else◌, ◌==◌, List, [], ◌∷◌, ◌++◌, reverse}
 use Rattle.std.specs.List.{AllByRecursion}
 
@@ -7,11 +7,11 @@ use Rattle.std.specs.List.{AllByRecursion}
 abbrev pub line_feed : ℕ
 line_feed = 10
 
--- the octet that may stand before it
+-- the octet that may come before it
 abbrev pub carriage_return : ℕ
 carriage_return = 13
 
--- an octet in front of the first of some lines
+-- an octet put in front of the first of some lines
 abbrev pub onto : ℕ → List (List ℕ) → List (List ℕ)
 onto octet [] = (octet ∷ []) ∷ []
 onto octet (line ∷ lines) = (octet ∷ line) ∷ lines
@@ -24,17 +24,17 @@ lines_of (octet ∷ octets) =
     then (octet ∷ []) ∷ lines_of octets
     else onto octet (lines_of octets)
 
--- octets that are read from the last one: without a CR where they begin with one
+-- octets that are read from the last one: without the CR if they begin with one
 abbrev pub without_return : List ℕ → List ℕ
 without_return [] = []
 without_return (octet ∷ octets) = if octet == carriage_return then octets else octet ∷ octets
 
--- the same without an LF, and a CR behind it, where they begin with an LF
+-- the same without an LF, and a CR after it, if they begin with an LF
 abbrev pub without_end : List ℕ → List ℕ
 without_end [] = []
 without_end (octet ∷ octets) = if octet == line_feed then without_return octets else octet ∷ octets
 
--- what a line says: the line without the LF that it ends with, and one CR before that
+-- what a line says: the line without the LF that it ends with, and without one CR before the LF
 abbrev pub content_of : List ℕ → List ℕ
 content_of line = reverse (without_end (reverse line))
 
@@ -49,10 +49,10 @@ pub record IsWhole (line : List ℕ) : Type 0 where
   pub is : line ≡ front ++ line_feed ∷ []
   pub plain : HasNoFeed front
 
--- an octet below 128 that is no quotation mark or CR
+-- an octet below 128 that is neither a quotation mark nor a CR
 abbrev pub IsTextOctet : ℕ → Type 0
 IsTextOctet octet = ((octet == 34) ≡ false) × ((octet == carriage_return) ≡ false) × (octet < 128)
 
--- octets each of which may stand in a plain line or is an LF
+-- each of these octets may appear in a plain line or is an LF
 abbrev pub IsPlainText : List ℕ → Type 0
 IsPlainText octets = AllByRecursion IsTextOctet octets

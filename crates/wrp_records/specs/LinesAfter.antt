@@ -1,5 +1,5 @@
--- What stands behind the text in front, for each status: the records are handled as they come, and at
--- the end of the input what closes them is written (this project's profile).
+-- What the output is after the text in front, for each status: the records are handled as they come,
+-- and at the end of the input the text that closes them is written (this project's profile).
 use Rattle.std.specs.Prelude.{◌≡◌, ◌⊎◌, ℕ, Option, List, take}
 use Rattle.wrp_records.specs.declared.status.Status.{Status}
 use Rattle.wrp_records.specs.declared.status.Status.TheVariants.{Done, ReadFault, WriteFault, TooLarge, OutOfMemory, BadCalib}
@@ -15,13 +15,13 @@ pub record DoneAt (M : LineMeaning) (octets : List ℕ) (r : ReaderAt) (text : L
   pub end : IsLast r
   pub wholly : IsWholly M (lines_of octets) text
 
--- the input ended, and what is written behind all its lines breaks off with a status
+-- the input ended, and the text that is written after all its lines breaks off with a status
 pub record BrokenAt (M : LineMeaning) (octets : List ℕ) (r : ReaderAt) (status : Status) (text : List ℕ)
     : Type 0 where
   pub end : IsLast r
   pub breaks : BreaksOff M status (lines_of octets) text
 
--- what is due
+-- the expected output
 abbrev pub DueAt : LineMeaning → List ℕ → ReaderAt → Status → List ℕ → Type 0
 DueAt M octets r Done text = DoneAt M octets r text
 DueAt M octets r TooLarge text =
@@ -31,7 +31,7 @@ DueAt M octets r OutOfMemory text =
 DueAt M octets r BadCalib text = BrokenAt M octets r BadCalib text
 DueAt M octets r status text = Due M.accepts M.refuses octets r status text
 
--- what stands
+-- what the output is
 abbrev pub LinesAfter : LineMeaning → List ℕ → ReaderAt → Status → List ℕ → Type 0
 LinesAfter M octets r ReadFault text = CutHandled M.accepts octets text
 LinesAfter M octets r WriteFault text =
@@ -39,7 +39,7 @@ LinesAfter M octets r WriteFault text =
     × (text ≡ take count due)
 LinesAfter M octets r status text = DueAt M octets r status text
 
--- what is written behind all lines, and the status that this ends with
+-- what is written after all lines, and the status that this ends with
 abbrev pub ClosesWith : LineMeaning → Status → List (List ℕ) → List ℕ → Type 0
 ClosesWith M Done lines text = M.closes lines text
 ClosesWith M TooLarge lines text = M.breaks_off lines TooLarge text
@@ -47,8 +47,8 @@ ClosesWith M OutOfMemory lines text = M.breaks_off lines OutOfMemory text
 ClosesWith M BadCalib lines text = M.breaks_off lines BadCalib text
 ClosesWith M _ lines text = ⊥
 
--- what is written behind all lines, whole or as far as it goes, with the status that this ends with; or a part
--- of it; or there is no memory for it
+-- what is written after all lines, whole or as far as it goes, with the status that this ends with; or a part
+-- of it; or nothing, if memory runs out
 abbrev pub Closed : (List (List ℕ) → Type 0) → LineMeaning → Status → Option (List ℕ)
     → Option (List ℕ) → Type 0
 Closed T M status before now =

@@ -1,4 +1,4 @@
--- What passes in a call between it and the objects of the outside that it was handed (this project's profile).
+-- What passes in a call between the call and the outside objects that it was given (this project's profile).
 use Rattle.std.specs.Prelude.{◌≡◌, ℕ, Bool, true, false, Option, List, [], ◌++◌}
 use Rattle.std.specs.Io.KnownBytes.{Appends, Consumes, IsAtEnd}
 use Rattle.wrp_io.specs.declared.link.LinkCall.{LinkCall}
@@ -8,8 +8,8 @@ use Rattle.wrp_records.specs.declared.status.Status.TheVariants.{ReadFault, Writ
 use Rattle.wrp_records.specs.After.{After}
 use Rattle.wrp_records.specs.Meaning.{Meaning}
 
--- What an object told before a call and after it, where it tells it (what a source has left, what a sink holds,
--- the calls of a link), and how often it had failed.
+-- What an object showed before a call and after it, if it shows anything (what a source has left, what a sink
+-- holds, the calls of a link), and how often it had failed.
 pub record Passage (A : Type 0) : Type 0 where
   pub before : Option A
   pub now : Option A
@@ -33,13 +33,13 @@ Failed p = Rose p.faults p.faults_now
 abbrev pub IsSound : {A : Type 0} → Passage A → Type 0
 IsSound p = p.faults_now ≡ p.faults
 
--- it failed exactly where this status is answered
+-- it failed if and only if this status is answered
 pub record FailsBy {A : Type 0} (fault status : Status) (p : Passage A) : Type 0 where
   pub failed : status ≡ fault → Failed p
   pub sound : (status ≡ fault → ⊥) → IsSound p
 
--- Behind octets that were held, and an input that had ended or not, the handling of an input took some from the
--- source and wrote what stands, with this status; it then knows whether the input ended.
+-- After octets that were held, and an input that had ended or not, the handling of an input took some octets
+-- from the source and wrote the output, with this status; it then knows whether the input ended.
 pub record Passes (M : Meaning) (source sink : Passage (List ℕ)) (held : List ℕ) (had_ended ended : Bool)
     (calls : List LinkCall) (status : Status) : Type 0 where
   pub given : List ℕ
@@ -52,6 +52,6 @@ pub record Passes (M : Meaning) (source sink : Passage (List ℕ)) (held : List 
   pub read : FailsBy ReadFault status source
   pub write : FailsBy WriteFault status sink
 
--- the same of a command without a text in front of its records, from the first octet on, which calls no link
+-- the same for a command that has no text in front of its records and calls no link, from the first octet on
 abbrev pub PassesAll : Meaning → Passage (List ℕ) → Passage (List ℕ) → Status → Type 0
 PassesAll M source sink status = (ended : Bool) × Passes M source sink [] false ended [] status

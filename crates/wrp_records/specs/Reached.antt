@@ -26,7 +26,7 @@ pub record Reached (H : Accepting) (T : List (List ℕ) → Type 0) (start : Lis
   pub has : T (map content_of lines)
   pub count : number ≡ length lines
 
--- the handling ends with a status, and what is due for it is written or waits
+-- the handling ends with a status, and what is expected for it is written or waits
 pub record Stopped (A : Accepting) (R : Refusing) (start : List ℕ) (r : ReaderAt)
     (left rest held now : Option (List ℕ)) (waiting : List ℕ) (status : Status) : Type 0 where
   pub given : List ℕ
@@ -37,7 +37,7 @@ pub record Stopped (A : Accepting) (R : Refusing) (start : List ℕ) (r : Reader
   pub waits : text ≡ out ++ waiting
   pub due : Due A R (start ++ given) r status text
 
--- the handling has come so far, or ends so
+-- the handling has come so far, or ends in this way
 abbrev pub Comes : Accepting → Refusing → (List (List ℕ) → Type 0) → List ℕ → ReaderAt
     → Option (List ℕ) → Option (List ℕ) → Option (List ℕ) → Option (List ℕ) → List ℕ → ℕ
     → Option Ended → Type 0

@@ -10,7 +10,7 @@ use Rattle.wrp_records.specs.declared.reader.Next.TheVariants.{Line, TooLong, Me
 abbrev pub piece_limit : ℕ
 piece_limit = 65_536
 
--- what a reader holds of what it took, and whether the source answered that there is no more
+-- what a reader holds of what it took, and whether the source answered that nothing more comes
 pub record ReaderAt : Type 0 where
   pub rest : List ℕ
   pub ended : Bool
@@ -20,7 +20,7 @@ pub record IsLast (r : ReaderAt) : Type 0 where
   pub ended : r.ended ≡ true
   pub none : r.rest ≡ []
 
--- the line has no LF, and nothing is held behind it
+-- the line has no LF, and nothing is held after it
 pub record IsCut (line : List ℕ) (r : ReaderAt) : Type 0 where
   pub plain : HasNoFeed line
   pub none : r.rest ≡ []
@@ -35,8 +35,8 @@ pub record EndsInput (line : List ℕ) (r : ReaderAt) : Type 0 where
 abbrev pub IsNext : List ℕ → ReaderAt → Type 0
 IsNext line r = IsWhole line ⊎ EndsInput line r
 
--- what was taken from the source stands behind what was held: of both a line is given, and the rest
--- is held; where the input had ended nothing is taken
+-- what was taken from the source follows what was held: from both together a line is given, and the
+-- rest is held; if the input had ended, nothing is taken
 abbrev pub Takes : Option (List ℕ) → Option (List ℕ) → List ℕ → Bool → ReaderAt → List ℕ → Type 0
 Takes before now held ended r line =
     (given : List ℕ) × Consumes before now given × (line ++ r.rest ≡ held ++ given)

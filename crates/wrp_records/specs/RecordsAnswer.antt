@@ -1,5 +1,5 @@
--- What is due for the record lines of an input: one status and the octets that are written (this
--- project's profile).
+-- What is expected for the record lines of an input: one status and the octets that are written
+-- (this project's profile).
 use Rattle.std.specs.Prelude.{◌≡◌, ◌⊎◌, ℕ, ◌+◌, ◌<◌, List, ◌∷◌, ◌++◌, length, map}
 use Rattle.wrp_records.specs.declared.machine.Refusal.{Refusal}
 use Rattle.wrp_records.specs.declared.machine.Refusal.TheVariants as refusals
@@ -9,7 +9,7 @@ use Rattle.wrp_records.specs.Lines.{content_of}
 use Rattle.wrp_records.specs.LineMeaning.{LineMeaning}
 use Rattle.wrp_records.specs.Stream.{Handles, IsWithin, IsTooLarge, number_limit, large_line}
 
--- all lines are records: they write this, and then this stands at the end
+-- all lines are records: they write this, and then this is written at the end
 pub record IsWholly (M : LineMeaning) (lines : List (List ℕ)) (octets : List ℕ) : Type 0 where
   pub written : List ℕ
   pub last : List ℕ
@@ -17,7 +17,7 @@ pub record IsWholly (M : LineMeaning) (lines : List (List ℕ)) (octets : List �
   pub closed : M.closes (map content_of lines) last
   pub is : octets ≡ written ++ last
 
--- the first line that is no record is refused so
+-- the first line that is no record is refused in this way
 pub record IsRefused (M : LineMeaning) (refusal : Refusal) (lines : List (List ℕ)) (octets : List ℕ)
     : Type 0 where
   pub before : List (List ℕ)
@@ -52,7 +52,7 @@ pub record BreaksOff (M : LineMeaning) (status : Status) (lines : List (List ℕ
   pub broken : M.breaks_off (map content_of lines) status last
   pub is : octets ≡ written ++ last
 
--- what is due for the record lines
+-- the expected answer to the record lines
 abbrev pub RecordsAnswer : LineMeaning → List (List ℕ) → Status → List ℕ → Type 0
 RecordsAnswer M lines Done octets = IsWholly M lines octets
 RecordsAnswer M lines BadTrace octets = IsRefused M refusals.BadTrace lines octets
@@ -69,7 +69,8 @@ pub record AreFirst (M : LineMeaning) (lines : List (List ℕ)) (octets : List �
   pub divided : lines ≡ front ++ behind
   pub handled : Handles M.accepts front octets
 
--- what the first so many records write; or what all do, and the first of what is written at the end
+-- what the first so many records write; or what all records write, and the first part of what is
+-- written at the end
 abbrev pub StandsFirst : LineMeaning → List (List ℕ) → List ℕ → Type 0
 StandsFirst M lines octets = AreFirst M lines octets ⊎ BreaksOff M OutOfMemory lines octets
 

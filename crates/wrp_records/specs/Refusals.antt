@@ -8,7 +8,7 @@ use Rattle.wrp_records.specs.declared.machine.Taken.{Taken}
 use Rattle.wrp_records.specs.declared.machine.Taken.TheVariants.{Refused}
 use Rattle.wrp_records.specs.Words.{line_of}
 
--- the only line where a text in front of all records is too large
+-- the only line of output if a text in front of all records is too large
 abbrev pub too_large_line : List ℕ
 too_large_line = codes "too-large 0\n"
 
@@ -26,7 +26,7 @@ code_name code =
     else if code == 10 then codes "Clash"
     else []
 
--- the only line where such a text is refused
+-- the only line of output if such a text is refused
 abbrev pub bad_network_line : ℕ → List ℕ → List ℕ
 bad_network_line code place =
     line_of (codes "bad-network" ∷ decimal code ∷ code_name code ∷ place ∷ [])
@@ -47,7 +47,7 @@ name_of (Number field) = codes "Number"
 name_of (Name field) = codes "Name"
 name_of (Memory e) = []
 
--- its field, which counts from 1; 0 where the whole line is at fault
+-- its field, counted from 1; 0 if the whole line is at fault
 abbrev pub field_of : TraceFault → ℕ
 field_of Fields = 0
 field_of Kind = 0
@@ -55,26 +55,26 @@ field_of (Number field) = field
 field_of (Name field) = field
 field_of (Memory e) = 0
 
--- the last line where a record, counted from 1, is refused
+-- the last line of output if a record, counted from 1, is refused
 abbrev pub bad_trace_line : ℕ → TraceFault → List ℕ
 bad_trace_line number fault =
     line_of
     (codes "bad-trace" ∷ decimal number ∷ decimal (code_of fault) ∷ name_of fault
     ∷ decimal (field_of fault) ∷ [])
 
--- whether a fault is lack of memory, and says nothing of the line
+-- whether a fault is lack of memory, and so says nothing about the line
 abbrev pub is_memory : TraceFault → Bool
 is_memory (Memory e) = true
 is_memory _ = false
 
--- a record is refused for a fault that its line has, and the line that names it is appended
+-- a record is refused for a fault that its line has, and the line that names the fault is appended
 pub record RefusesLine (fault : TraceFault) (number : ℕ) (old new : List ℕ) (taken : Taken) : Type 0 where
   pub refused : taken ≡ Refused BadTrace
   pub cause : is_memory fault ≡ false
   pub line : new ≡ old ++ bad_trace_line number fault
 
--- the last line where a record, counted from 1, breaks a premise of this number and name: what is shown, and
--- its bound
+-- the last line of output if a record, counted from 1, breaks the premise with this number and name: the value
+-- shown, and its bound
 abbrev pub broken_words : ℕ → ℕ → List ℕ → ℤ → ℤ → List ℕ
 broken_words number premise name shown bound =
     line_of

@@ -12,7 +12,7 @@ use Rattle.wrp_fields.specs.Reading.{is_plain}
 abbrev pub HasParts : List ℕ → Row → Type 0
 HasParts line row = IsLine line × (fields_of row ≡ parts_of line)
 
--- the parts of a line that is plain, and none of one that is not
+-- the parts of a line if it is plain, and none if it is not
 abbrev pub IsSplit : List ℕ → Option (Bor Row) → Type 0
 IsSplit line parts = MatchOption parts (IsLine line → ⊥) (λ row. HasParts line row.now)
 

@@ -19,8 +19,8 @@ number_of OutOfMemory = 9
 number_of BadCapture = 10
 number_of BadCalib = 11
 
--- whether a status answers words and input, and tells neither a fault of the outside nor want of
--- memory
+-- whether a status answers words and input; the others report an outside fault or that memory ran
+-- out
 abbrev pub is_answer : Status → Bool
 is_answer ReadFault = false
 is_answer WriteFault = false

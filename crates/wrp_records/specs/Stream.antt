@@ -1,5 +1,5 @@
--- The records of an input as they come, a line each: which of them are handled, and what then
--- stands for each status (this project's profile).
+-- The records of an input as they come, one line each: which of them are handled, and what the
+-- output then is for each status (this project's profile).
 use Rattle.std.specs.Prelude.{◌≡◌, ◌⊎◌, true, false, ℕ, ◌+◌, ◌^◌, ◌<◌, ◌≤◌, ◌==◌, Option, List, [], ◌∷◌, ◌++◌, length, map, take, codes}
 use Rattle.std.specs.List.{position_or_len, concat, AllByRecursion}
 use Rattle.std.specs.Fmt.{decimal}
@@ -27,7 +27,7 @@ size_of line = position_or_len (λ octet. octet == line_feed) line
 abbrev pub IsWithin : List ℕ → Type 0
 IsWithin line = size_of line ≤ line_limit
 
--- the line behind so many records is too large, or has too great a number
+-- the line after so many records is too large, or has too great a number
 abbrev pub IsTooLarge : List ℕ → ℕ → Type 0
 IsTooLarge line number = (line_limit < size_of line) ⊎ (number + 1 ≡ number_limit)
 
@@ -36,13 +36,13 @@ abbrev pub IsLargeNext : List ℕ → ReaderAt → ℕ → Type 0
 IsLargeNext line r number =
     (IsNext line r ⊎ IsCut line r) × (0 < length line) × IsTooLarge line number
 
--- the line has no LF yet and passes no size, where the input did not end
+-- the line has no LF yet and is not too large, and the input did not end
 abbrev pub IsCutWithin : List ℕ → ReaderAt → ℕ → Type 0
 IsCutWithin line r number =
     IsCut line r × (length line ≤ line_limit) × (0 < length line → number + 1 < number_limit)
     × (r.ended ≡ false)
 
--- the last line where a record, counted from 1, is too large
+-- the last line of output if a record, counted from 1, is too large
 abbrev pub large_line : ℕ → List ℕ
 large_line number = codes "too-large " ++ decimal number ++ 10 ∷ []
 
@@ -50,7 +50,7 @@ large_line number = codes "too-large " ++ decimal number ++ 10 ∷ []
 abbrev pub Accepting : Type 1
 Accepting = List (List ℕ) → List ℕ → Type 0
 
--- which line behind some others is refused, and the last line that names it
+-- which line is refused after some others, and the last line that names it
 abbrev pub Refusing : Type 1
 Refusing = List (List ℕ) → List ℕ → Refusal → List ℕ → Type 0
 
@@ -60,7 +60,7 @@ pub record Handles (A : Accepting) (lines : List (List ℕ)) (text : List ℕ) :
   pub count : length lines < number_limit
   pub accepted : A (map content_of lines) text
 
--- behind whole lines a line stands, and at most one piece behind it
+-- after whole lines comes a line, and at most one piece after it
 pub record StandsBehind (octets : List ℕ) (lines : List (List ℕ)) (line past : List ℕ)
     : Type 0 where
   pub all : octets ≡ concat lines ++ (line ++ past)
@@ -77,7 +77,7 @@ pub record FirstHandled (A : Accepting) (octets : List ℕ) (r : ReaderAt) (text
       ⊎ ((r.ended ≡ true) × (more ≡ []) × (lines_of octets ≡ lines))
   pub handled : Handles A lines text
 
--- the lines that are whole are handled, and no size is passed by the cut one behind them
+-- the whole lines are handled, and the cut line after them is not too large
 pub record CutHandled (A : Accepting) (octets text : List ℕ) : Type 0 where
   pub lines : List (List ℕ)
   pub cut : List ℕ
@@ -88,7 +88,7 @@ pub record CutHandled (A : Accepting) (octets text : List ℕ) : Type 0 where
   pub number : 0 < length cut → length lines + 1 < number_limit
   pub handled : Handles A lines text
 
--- a line is refused, and all before it are handled
+-- a line is refused, and all lines before it are handled
 pub record RefusedAt (A : Accepting) (R : Refusing) (refusal : Refusal)
     (octets : List ℕ) (r : ReaderAt) (text : List ℕ) : Type 0 where
   pub lines : List (List ℕ)
@@ -103,7 +103,7 @@ pub record RefusedAt (A : Accepting) (R : Refusing) (refusal : Refusal)
   pub refused : R (map content_of lines) (content_of line) refusal last
   pub is : text ≡ before ++ last
 
--- a line is too large or has too great a number, and all before it are handled
+-- a line is too large or has too great a number, and all lines before it are handled
 pub record TooLargeAt (A : Accepting) (octets : List ℕ) (r : ReaderAt) (text : List ℕ)
     : Type 0 where
   pub lines : List (List ℕ)
@@ -117,7 +117,7 @@ pub record TooLargeAt (A : Accepting) (octets : List ℕ) (r : ReaderAt) (text :
   pub handled : Handles A lines before
   pub is : text ≡ before ++ large_line (length lines + 1)
 
--- what is due for a status that ends the handling before the end of the input
+-- what is expected for a status that ends the handling before the end of the input
 abbrev pub Due : Accepting → Refusing → List ℕ → ReaderAt → Status → List ℕ → Type 0
 Due A R octets r BadTrace text = RefusedAt A R refusals.BadTrace octets r text
 Due A R octets r Broken text = RefusedAt A R refusals.Broken octets r text
@@ -125,7 +125,7 @@ Due A R octets r TooLarge text = TooLargeAt A octets r text
 Due A R octets r OutOfMemory text = FirstHandled A octets r text
 Due A R octets r _ text = ⊥
 
--- what stands after the records, for each status
+-- what the output is after the records, for each status
 abbrev pub Outcome : Accepting → Refusing → List ℕ → ReaderAt → Status → List ℕ → Type 0
 Outcome A R octets r Done text = IsLast r × Handles A (lines_of octets) text
 Outcome A R octets r ReadFault text = CutHandled A octets text
@@ -134,7 +134,7 @@ Outcome A R octets r WriteFault text =
     × (text ≡ take count due)
 Outcome A R octets r status text = Due A R octets r status text
 
--- what was taken from the source and written to the sink, and what then stands
+-- what was taken from the source and written to the sink, and what the output then is
 pub record Handling (A : Accepting) (R : Refusing) (T : List (List ℕ) → Type 0)
     (start : List ℕ) (r : ReaderAt) (left rest held now : Option (List ℕ)) (status : Status)
     : Type 0 where

@@ -10,12 +10,12 @@ is_word_octet c = not (c == 32) && not (c == 10)
 abbrev pub IsWord : List ℕ → Type 0
 IsWord octets = list_all is_word_octet octets ≡ true
 
--- the line of some words: a space (octet 32) between two of them, LF (octet 10) behind the last
+-- the line of some words: a space (octet 32) between two of them, LF (octet 10) after the last
 abbrev pub line_of : List (List ℕ) → List ℕ
 line_of [] = 10 ∷ []
 line_of (word ∷ []) = word ++ 10 ∷ []
 line_of (word ∷ words) = word ++ 32 ∷ line_of words
 
--- a text begins as an older one
+-- a text begins with an older one
 abbrev pub Begins : List ℕ → List ℕ → Type 0
 Begins old new = take (length old) new ≡ old

@@ -12,7 +12,7 @@ use std::alloc::Global;
 use wrp_base::ConfFault;
 use wrp_io::Sink;
 
-/// Writes a text, and answers the status that it goes with, or WriteFault.
+/// Writes a text, and answers the status that goes with it, or WriteFault.
 pub fn answer<K: Sink>(sink: &mut K, status: Status, text: &[u8]) -> Status
     requires { is_answer status ≡ true }
     ensures how { Finishes status result (K.held sink.old) (K.held sink.new) text.now }

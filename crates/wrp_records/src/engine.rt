@@ -1,5 +1,5 @@
-//! The records of an input, handled as they come: each line is taken as it is read, and what it
-//! writes is written, all at once, before the source is asked for more.
+//! The records of an input, handled as they come: each line is handled when it has been read, and
+//! its output is written, all at once, before the source is asked for more.
 ghost use Rattle.std.specs.Prelude.{◌≡◌, ◌⊎◌, ℕ, Option, None, MatchOption, List, ◌+◌, ◌^◌, ◌<◌, ◌≤◌, ◌++◌, ◌∷◌, [], length, true, false, OnOk, OnErr};
 ghost use Rattle.std.specs.Io.KnownBytes.{IsAtEnd};
 ghost use Rattle.wrp_io.specs.Faults.{Rose};
@@ -35,12 +35,12 @@ enum Ended {
     TooLarge,
     // A record is refused.
     Refused(Refusal),
-    // There was no memory.
+    // Memory ran out.
     Memory,
 }
 
 impl Ended {
-    // The status that a run then ends with.
+    // The status with which a run then ends.
     fn status(self) -> Status
         ensures { result ≡ status_by self }
     {
@@ -66,7 +66,7 @@ enum NextRecord {
     Failed,
     // The sink failed.
     Unwritten,
-    // There was no memory.
+    // Memory ran out.
     Memory,
 }
 
@@ -80,7 +80,7 @@ fn size_of_line(line: &[u8]) -> usize
     }
 }
 
-// How many octets of a line without its LF are taken behind so many records: none where the next
+// How many octets of a line without its LF are taken after so many records: none if the next
 // record's number is too great.
 fn most_at(number: u32) -> usize
     ensures { MostAt number result }
@@ -88,7 +88,7 @@ fn most_at(number: u32) -> usize
     if number == u32::MAX { 0 } else { LINE_LIMIT }
 }
 
-// What a line that came is, behind so many records.
+// What a line is that came after so many records.
 fn came(line: &[u8], number: u32) -> NextRecord
     ensures line { result ≡ NextRecord.Line
         → IsWithin line.now × (number + 1 < number_limit) }
@@ -102,7 +102,7 @@ fn came(line: &[u8], number: u32) -> NextRecord
     }
 }
 
-// What the reader answered, behind so many records.
+// What the reader answered, when so many records came before.
 fn answered(next: Next, line: &[u8], number: u32) -> NextRecord
     ensures line { result ≡ NextRecord.Line
         → (next ≡ Next.Line) × IsWithin line.now × (number + 1 < number_limit) }
@@ -123,8 +123,8 @@ fn answered(next: Next, line: &[u8], number: u32) -> NextRecord
     }
 }
 
-// Gives the line of the next record, where `number` were given before. What waits is written before
-// the source is asked.
+// Gives the line of the next record, after `number` records. What waits is written before the
+// source is asked.
 fn next_record<S: Source, K: Sink>(
     reader: &mut Reader,
     source: &mut S,
@@ -170,7 +170,7 @@ fn next_record<S: Source, K: Sink>(
 }
 
 /// Appends the line that names a record that is too large, or an event with too great a number.
-/// `AllocError` where there is no memory for it: nothing is appended.
+/// `AllocError` if memory runs out: nothing is appended.
 pub fn append_large(alloc: Global, waiting: &mut Vec<u8>, number: u64) -> Result<(), AllocError>
     ensures ok { OnOk result (waiting.new.items ≡ waiting.old.items ++ large_line number) }
     ensures err { OnErr result (waiting.new.items ≡ waiting.old.items) }
@@ -180,7 +180,7 @@ pub fn append_large(alloc: Global, waiting: &mut Vec<u8>, number: u64) -> Result
     Ok(())
 }
 
-// Names the record behind so many, which is too large.
+// Names the record that comes after so many and is too large.
 fn tell_large(alloc: Global, waiting: &mut Vec<u8>, number: u32) -> Ended
     ensures { TellsLarge (number + 1) waiting.old.items waiting.new.items result }
 {
@@ -190,7 +190,7 @@ fn tell_large(alloc: Global, waiting: &mut Vec<u8>, number: u32) -> Ended
     }
 }
 
-// Handles what a line says by its parts, the record of this number.
+// Handles what a line says, given by its parts, as the record of this number.
 fn handle_line<M: Machine>(
     alloc: Global,
     machine: &mut M,
@@ -226,7 +226,7 @@ fn handle_line<M: Machine>(
     }
 }
 
-// Handles what a line says that stands alone, the record of this number.
+// Handles what a line that is alone says, as the record of this number.
 fn handle_alone<M: Machine>(
     alloc: Global,
     machine: &mut M,
@@ -254,7 +254,7 @@ fn handle_alone<M: Machine>(
     }
 }
 
-// Writes what waits, and answers the status that a run ends with.
+// Writes what waits, and answers the status with which the run ends.
 fn finish<K: Sink>(sink: &mut K, waiting: &[u8], ended: Ended) -> Status
     ensures text { Finishes (status_by ended) result (K.held sink.old) (K.held sink.new) waiting.now }
     ensures rose { result ≡ Status.WriteFault → Rose (K.faults sink.old) (K.faults sink.new) }
@@ -272,8 +272,8 @@ fn finish<K: Sink>(sink: &mut K, waiting: &[u8], ended: Ended) -> Status
     }
 }
 
-// Handles the next record, which the reader does not hold as a whole and plain line. Answers the status that
-// the handling ends with, where it ends here.
+// Handles the next record, which the reader does not hold as a whole and plain line. Answers the status with
+// which the handling ends, if it ends here.
 fn handle_next<M: Machine, S: Source, K: Sink>(
     alloc: Global,
     machine: &mut M,
@@ -327,9 +327,9 @@ fn handle_next<M: Machine, S: Source, K: Sink>(
     }
 }
 
-/// Handles the records that a reader gives: takes each line as it comes, those that the reader holds by one
-/// reader of `csv`, and writes what they write before it asks the source for more. Answers Done at the end of
-/// the input, where what is written at the end is left to the caller.
+/// Handles the records that a reader gives. It takes each line as it comes, uses one reader of `csv` for the
+/// lines that the reader holds, and writes their output before it asks the source for more. Answers Done at
+/// the end of the input; what is written at the end is left to the caller.
 pub fn handle_records<M: Machine, S: Source, K: Sink>(
     alloc: Global,
     machine: &mut M,
@@ -353,7 +353,8 @@ pub fn handle_records<M: Machine, S: Source, K: Sink>(
     ensures ended { reader.old.ended ≡ true → reader.new.ended ≡ true }
     ensures open { result ≡ Status.ReadFault → reader.new.ended ≡ false }
 
-    // The source failed exactly where ReadFault is answered, and the sink where WriteFault is.
+    // The source failed if and only if ReadFault is answered, and the sink failed if and only if
+    // WriteFault is.
     ensures read_fault { result ≡ Status.ReadFault
         → Rose (S.faults source.old) (S.faults source.new) }
     ensures read_kept { (result ≡ Status.ReadFault → ⊥)

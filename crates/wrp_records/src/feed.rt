@@ -6,7 +6,7 @@ ghost use Rattle.wrp_records.specs.Lines.{line_feed, HasNoFeed, IsWhole};
 use memchr::memchr;
 use std::alloc::AllocError;
 
-/// The place of the first LF. None exactly where there is none.
+/// The place of the first LF. None if and only if there is none.
 #[tactic(auto, using(crate::proofs::FirstFeed::first_is))]
 pub fn first_feed(octets: &[u8]) -> Option<usize>
     ensures { result ≡ position (λ octet. octet == line_feed) octets.now }
@@ -14,7 +14,7 @@ pub fn first_feed(octets: &[u8]) -> Option<usize>
     memchr(b'\n', octets)
 }
 
-/// How many octets stand up to the first LF and with it, or None where there is no LF.
+/// The number of octets up to and including the first LF, or None if there is no LF.
 pub fn first_whole(octets: &[u8]) -> Option<usize>
     ensures { MatchOption result
         (HasNoFeed octets.now)
@@ -26,9 +26,9 @@ pub fn first_whole(octets: &[u8]) -> Option<usize>
     }
 }
 
-/// Appends the octets up to the first LF and with it, and answers how many these are; None where
-/// there is no LF, and then all of them. `AllocError` where there is no memory for them: the line
-/// is as before.
+/// Appends the octets up to and including the first LF, and answers their number. If there is no
+/// LF, it appends all octets and answers None. `AllocError` if memory runs out: the line is as
+/// before.
 pub fn append_front(line: &mut Vec<u8>, octets: &[u8]) -> Result<Option<usize>, AllocError>
     requires { HasNoFeed line.old.items }
     ensures all { IfOk result (λ given. MatchOption given

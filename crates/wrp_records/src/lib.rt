@@ -1,6 +1,6 @@
-//! What every command stands on: the records of an input, taken from a source in pieces and handled as they
-//! come, what they write, which goes to a sink before more is asked for, and the refusals that end it. A
-//! command is a machine for its lines. It knows no network (this project's profile).
+//! What every command is built on: the records of an input, taken from a source in pieces and handled as
+//! they come; their output, which goes to a sink before more is asked for; and the refusals that end the
+//! input. A command is a machine for its lines. This crate knows no network (this project's profile).
 #![tactic(auto)]
 
 mod answering;

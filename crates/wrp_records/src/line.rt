@@ -2,7 +2,7 @@
 ghost use Rattle.std.specs.Prelude.{◌≡◌};
 ghost use Rattle.wrp_records.specs.Lines.{content_of};
 
-/// What a line says: the line without its LF and one CR before it.
+/// What a line says: the line without its LF and without one CR before the LF.
 pub fn content(line: &[u8]) -> &[u8]
     ensures { result.now ≡ content_of line.now }
 {

@@ -1,4 +1,4 @@
-//! What handles the records of a command, a line each, and the end of its input.
+//! What handles the records of a command, one line each, and the end of its input.
 ghost use Rattle.std.specs.Prelude.{◌≡◌, ℕ, ◌+◌, ◌^◌, ◌<◌, ◌≤◌, List, [], ◌∷◌, ◌++◌, length, IfOk};
 ghost use Rattle.wrp_records.specs.declared.machine.Refusal.{Refusal};
 ghost use Rattle.wrp_records.specs.Split.{IsSplit};
@@ -9,7 +9,7 @@ use std::alloc::{AllocError, Global};
 /// Why a record is refused.
 #[derive(Clone, Copy, Debug, PartialEq, Eq)]
 pub enum Refusal {
-    /// It is no line of its kind.
+    /// It is not a line of its kind.
     BadTrace,
     /// It breaks a premise.
     Broken,
@@ -20,7 +20,7 @@ pub enum Refusal {
 pub enum Taken {
     /// It is a record, and what it writes is given.
     Accepted,
-    /// It is refused, and the line that names it is given.
+    /// It is refused, and the line that names the refusal is given.
     Refused(Refusal),
 }
 
@@ -29,7 +29,7 @@ pub enum Taken {
 pub enum Closing {
     /// What is written after all records is given.
     Closed,
-    /// The records as a whole give no answer, and the line that names it is given.
+    /// The records as a whole give no answer, and the line that says why is given.
     BadCalib,
 }
 
@@ -47,25 +47,25 @@ pub trait Machine {
     /// The machine can take a line.
     ghost is_ready: { Self → Type 0 };
 
-    /// The machine stands for the lines that say this.
+    /// The machine is in the state that lines which say this lead to.
     ghost has_taken: { Self → List (List ℕ) → Type 0 };
 
     /// Lines that say this are records, and write this.
     ghost accepts: { Self.Setting → List (List ℕ) → List ℕ → Type 0 };
 
-    /// Behind lines that say this a line that says this is refused, and this last line names it.
+    /// After lines that say this, a line that says this is refused, and this last line names it.
     ghost refuses: { Self.Setting → List (List ℕ) → List ℕ → Refusal → List ℕ → Type 0 };
 
-    /// Behind lines that say this, and no more, this is written at the end.
+    /// After lines that say this, and no more, this is written at the end.
     ghost closes: { Self.Setting → List (List ℕ) → List ℕ → Type 0 };
 
-    /// Lines that say this, and no more, give no answer, and this last line names it.
+    /// Lines that say this, and no more, give no answer, and this last line says why.
     ghost bars: { Self.Setting → List (List ℕ) → List ℕ → Type 0 };
 
-    /// Takes what a line says, the record of this number, by the parts that `csv` gives, and
-    /// appends what it writes to `text`. A line that is not plain has no parts. `AllocError` where
-    /// there is no memory: the machine keeps its setting, and nothing is known of `text` or of what
-    /// it has taken.
+    /// Takes what a line says, by the parts that `csv` gives, as the record of this number, and
+    /// appends its output to `text`. A line that is not plain has no parts. `AllocError` if memory
+    /// runs out: the machine keeps its setting, and nothing is known of `text` or of what the
+    /// machine has taken.
     fn take(
         &mut self,
         alloc: Global,
@@ -92,7 +92,7 @@ pub trait Machine {
             → refuses (setting self.old) lines line.now refusal text.new.items) };
 
     /// Takes the end of the input, and appends what is written after all records to `text`.
-    /// `AllocError` where there is no memory: then nothing is known of `text`.
+    /// `AllocError` if memory runs out: then nothing is known of `text`.
     fn close(&self, alloc: Global, text: &mut Vec<u8>) -> Result<Closing, AllocError>
         requires ready { is_ready self.now }
         requires none { text.old.items ≡ [] }

@@ -20,11 +20,11 @@ pub enum Next {
     Line,
     /// The input ended before another line.
     End,
-    /// The next line has no LF yet, and more octets than asked for.
+    /// The next line has no LF yet, and has more octets than asked for.
     TooLong,
-    /// The source failed. What came of the next line is given.
+    /// The source failed. The part of the next line that came is given.
     Failed,
-    /// There was no memory.
+    /// Memory ran out.
     Memory,
 }
 
@@ -41,7 +41,7 @@ fn last(line: &[u8]) -> Next
     }
 }
 
-/// What was taken from a source and not given yet.
+/// What was taken from a source and not yet given.
 #[derive(Drop)]
 pub struct Reader {
     piece: [u8; PIECE],
@@ -82,7 +82,7 @@ impl Reader {
         &self.piece[self.at..self.end]
     }
 
-    /// Passes so many octets of what is held.
+    /// Passes over so many octets of what is held.
     pub fn pass(&mut self, size: usize)
         requires { size ≤ length self.old.rest }
         ensures rest { self.new.rest ≡ drop size self.old.rest }
@@ -92,9 +92,9 @@ impl Reader {
         self.at += size;
     }
 
-    /// Appends to a line what is held, up to the first LF and with it. Answers whether an LF came.
-    /// `AllocError` where there is no memory: no octet is lost, and those that were given are in
-    /// front of those that are held.
+    /// Appends what is held to a line, up to and including the first LF. Answers whether an LF
+    /// came. `AllocError` if memory runs out: no octet is lost, and the octets that were given come
+    /// before those that are held.
     pub fn give(&mut self, line: &mut Vec<u8>) -> Result<bool, AllocError>
         requires { HasNoFeed line.old.items }
         ensures same { line.new.items ++ self.new.rest ≡ line.old.items ++ self.old.rest }
@@ -115,8 +115,8 @@ impl Reader {
         }
     }
 
-    // Takes the next piece from the source, where nothing is held and nothing waits to be written.
-    // Answers whether there is one. Behind the end of the input the source is not asked again.
+    // Takes the next piece from the source, when nothing is held and nothing waits to be written.
+    // Answers whether there is one. After the end of the input the source is not asked again.
     fn refill<S: Source>(&mut self, source: &mut S, waiting: &[u8]) -> Result<bool, Failed>
         requires none { self.old.rest ≡ [] }
         requires written { waiting.now ≡ [] }
@@ -142,8 +142,8 @@ impl Reader {
         Ok(!self.ended)
     }
 
-    // Appends to a line what is held, up to the first LF and with it. Answers what ends the reading, or None
-    // where the line has no LF yet and no more than `most` octets.
+    // Appends what is held to a line, up to and including the first LF. Answers what ends the reading, or
+    // None if the line has no LF yet and no more than `most` octets.
     pub(crate) fn give_on(&mut self, line: &mut Vec<u8>, most: usize) -> Option<Next>
         requires { HasNoFeed line.old.items }
         ensures same { line.new.items ++ self.new.rest ≡ line.old.items ++ self.old.rest }
@@ -163,8 +163,8 @@ impl Reader {
         None
     }
 
-    /// Reads on in a line that has no LF yet, where nothing waits to be written, until it has one or
-    /// more than `most` octets.
+    /// Continues a line that has no LF yet, when nothing waits to be written, until the line has an
+    /// LF or more than `most` octets.
     pub fn read_on<S: Source>(
         &mut self,
         source: &mut S,
@@ -180,7 +180,7 @@ impl Reader {
             (line.old.items ++ self.old.rest) self.old.ended self.new line.new.items }
         ensures at_end { self.new.ended ≡ true → IsAtEnd (S.left source.new) }
 
-        // A line is given with at most one piece behind it.
+        // A line is given, and at most one piece is held after it.
         ensures line { result ≡ Next.Line
             → IsNext line.new.items self.new × (length self.new.rest ≤ piece_limit) }
         ensures end { result ≡ Next.End → IsLast self.new × (line.new.items ≡ []) }
@@ -190,7 +190,7 @@ impl Reader {
             → IsCut line.new.items self.new × (length line.new.items ≤ most)
             × (self.new.ended ≡ false) }
 
-        // The source failed exactly where this is answered.
+        // The source failed if and only if this is answered.
         ensures rose { result ≡ Next.Failed → Rose (S.faults source.old) (S.faults source.new) }
         ensures kept { (result ≡ Next.Failed → ⊥) → S.faults source.new ≡ S.faults source.old }
     {

@@ -8,7 +8,7 @@ use crate::machine::{Refusal, Taken};
 use std::alloc::{AllocError, Global};
 use wrp_base::{Tau, TraceFault};
 
-/// The only line where a text in front of all records is too large.
+/// The only line of output if a text in front of all records is too large.
 pub const TOO_LARGE_LINE: &str = "too-large 0\n";
 
 // The name of a fault of a network or calibration text, by its code.
@@ -30,8 +30,7 @@ fn network_fault(code: u8) -> &'static str
     }
 }
 
-/// The line of a network or calibration text that is refused. `AllocError` where there is no memory
-/// for it.
+/// The line of a network or calibration text that is refused. `AllocError` if memory runs out.
 pub fn bad_network(alloc: Global, code: u8, place: &str) -> Result<String, AllocError>
     ensures { IfOk result (λ line. string_bytes line ≡ bad_network_line code place.now) }
 {
@@ -65,7 +64,7 @@ fn name_of(fault: &TraceFault) -> &'static str
     }
 }
 
-// The field at fault, which counts from 1; 0 where it is the whole line.
+// The field at fault, counted from 1; 0 if the whole line is at fault.
 fn field_of(fault: &TraceFault) -> u32
     ensures { result ≡ field_of fault.now }
 {
@@ -99,9 +98,9 @@ fn append_bad_trace(
     text.extend_from_slice(line.as_bytes())
 }
 
-/// Refuses a record for a fault of its line, and appends the line that names it. `AllocError` where
-/// the fault is lack of memory, or there is no memory for the line: then nothing is known of
-/// `text`.
+/// Refuses a record for a fault of its line, and appends the line that names the fault.
+/// `AllocError` if the fault is lack of memory, or if memory runs out for the line: then nothing is
+/// known of `text`.
 pub fn refuse(
     alloc: Global,
     number: u32,
@@ -125,7 +124,7 @@ fn side(alloc: Global, value: Tau) -> Result<String, AllocError>
     format!(in alloc; "{value}")
 }
 
-// The line of a record that breaks a premise of this number and name.
+// The line of a record that breaks the premise with this number and name.
 fn broken(
     alloc: Global,
     number: u32,
@@ -144,9 +143,8 @@ fn broken(
     format!(in alloc; "broken {number} {premise} {name} {shown} {bound}\n")
 }
 
-/// Appends the line of a record that breaks a premise of this number and name, and both sides of
-/// the comparison that fails. `AllocError` where there is no memory: then nothing is known of
-/// `text`.
+/// Appends the line of a record that breaks the premise with this number and name, with both sides of
+/// the comparison that fails. `AllocError` if memory runs out: then nothing is known of `text`.
 pub fn append_broken_words(
     alloc: Global,
     text: &mut Vec<u8>,

@@ -1,4 +1,4 @@
-//! All records of an input, and what is written behind them.
+//! All records of an input, and what is written after them.
 ghost use Rattle.std.specs.Prelude.{◌≡◌, [], ℕ, List, true};
 ghost use Rattle.std.specs.Io.KnownBytes.{IsAtEnd};
 ghost use Rattle.wrp_io.specs.Faults.{Rose};
@@ -15,7 +15,7 @@ use crate::status::Status;
 use std::alloc::Global;
 use wrp_io::{Sink, Source};
 
-// Writes what stands behind all records.
+// Writes what comes after all records.
 fn close<M: Machine, K: Sink>(alloc: Global, machine: &M, sink: &mut K) -> Status
     requires { M.is_ready machine.now }
     ensures stands { Closed (M.has_taken machine.now)
@@ -34,7 +34,7 @@ fn close<M: Machine, K: Sink>(alloc: Global, machine: &M, sink: &mut K) -> Statu
     }
 }
 
-/// Hands the records that a reader gives to a machine, and then the end of the input.
+/// Gives a machine the records that a reader gives, and then the end of the input.
 pub fn run_lines<M: Machine, S: Source, K: Sink>(
     alloc: Global,
     machine: &mut M,
@@ -58,7 +58,7 @@ pub fn run_lines<M: Machine, S: Source, K: Sink>(
     }
 }
 
-/// Hands all records of a source to a machine, from its first octet on, and then the end of the input.
+/// Gives a machine all records of a source, from its first octet on, and then the end of the input.
 pub fn run_all_lines<M: Machine, S: Source, K: Sink>(
     alloc: Global,
     machine: &mut M,

@@ -7,11 +7,11 @@ ghost use Rattle.wrp_records.specs.Statuses.{number_of};
 pub enum Status {
     /// 0: the input was read to its end.
     Done,
-    /// 1: the words are no command, or name a node that the network has not.
+    /// 1: the words are no command, or name a node that the network does not have.
     Usage,
-    /// 2: the network text is refused, or the calibration text of a migration.
+    /// 2: the network text, or the calibration text of a migration, is refused.
     BadNetwork,
-    /// 3: a record is no line of its kind.
+    /// 3: a record is not a line of its kind.
     BadTrace,
     /// 4: an event broke a premise.
     Broken,
@@ -23,11 +23,11 @@ pub enum Status {
     LinkFault,
     /// 8: the input is too large.
     TooLarge,
-    /// 9: there was no memory.
+    /// 9: memory ran out.
     OutOfMemory,
     /// 10: the capture is refused.
     BadCapture,
-    /// 11: no answer can be given of a calibration's records.
+    /// 11: a calibration's records give no answer.
     BadCalib,
 }
 

@@ -4,7 +4,7 @@ ghost use Rattle.wrp_records.specs.Words.{line_of, Begins};
 
 use std::alloc::AllocError;
 
-// Appends a word and the octet behind it.
+// Appends a word and the octet after it.
 fn append_word(text: &mut Vec<u8>, word: &str, end: u8) -> Result<(), AllocError>
     ensures ok { OnOk result (text.new.items ≡ text.old.items ++ (word.now ++ end ∷ [])) }
     ensures err { OnErr result (Begins text.old.items text.new.items) }
@@ -14,7 +14,7 @@ fn append_word(text: &mut Vec<u8>, word: &str, end: u8) -> Result<(), AllocError
     Ok(())
 }
 
-// Appends the line of some words. Where there is no memory for it, a part of it may stand.
+// Appends the line of some words. If memory runs out, a part of the line may have been appended.
 fn append_on(text: &mut Vec<u8>, words: &[&str]) -> Result<(), AllocError>
     ensures ok { OnOk result (
         text.new.items ≡ text.old.items ++ line_of (map (λ word. word.now) words.now)) }
@@ -30,8 +30,8 @@ fn append_on(text: &mut Vec<u8>, words: &[&str]) -> Result<(), AllocError>
     }
 }
 
-/// Appends to `text` the line of some words: a space between two of them, and LF behind the last.
-/// `AllocError` where there is no memory for the line: `text` keeps its octets.
+/// Appends to `text` the line of some words: a space between two of them, and LF after the last.
+/// `AllocError` if memory runs out: `text` keeps its octets.
 pub fn append_words(text: &mut Vec<u8>, words: &[&str]) -> Result<(), AllocError>
     ensures ok { OnOk result (
         text.new.items ≡ text.old.items ++ line_of (map (λ word. word.now) words.now)) }

@@ -1,4 +1,4 @@
--- A node of a network does not see what stands in the unused room of names.
+-- A node of a network does not depend on what is in the unused room of names.
 use Rattle.std.proofs.Common.{◌≡◌, ◌∙◌, ◌+◌, ◌++◌, ℕ, ℤ, zero, suc, Bool, true, false, if◌then◌else◌, Option, None, Some, Result, Ok, Err, List, [], ◌∷◌, map, refl, ap, ap₂}
 use Rattle.std.specs.Prelude.{option_map, sum_by, slice_get}
 use Rattle.std.specs.List.{find, flat_map, fold}
@@ -29,7 +29,7 @@ use Rattle.wrp_fields.specs.Reading.{field_of, name_or_fault, ◌>>=◌}
 use Rattle.wrp_trace.specs.LineSetting.{LineSetting, has_port, is_grandmaster, named_at}
 use Rattle.wrp_replay.specs.DownLaw.{down_over, node_setting_at, greatest_over, law_at, least_over}
 
--- a node, whose network's names stand without their unused room
+-- a node of the same network, whose names are without their unused room
 abbrev pub bare_setting : LineSetting → LineSetting
 bare_setting site = record site { cfg = bare_cfg site.cfg }
 

@@ -11,7 +11,7 @@ use Rattle.wrp_node.specs.NodeAt.{NodeAt}
 use Rattle.wrp_trace.specs.LineSetting.{LineSetting, has_port}
 use Rattle.wrp_replay.specs.NodeText.{nonzero_line, port_counts, port_numbers, node_counts}
 
--- what a text lacks of all is what the elements from the i-th on give
+-- what a text still lacks of the whole is what the elements from the i-th on give
 abbrev pub Lacks : {X : Type 0} → (X → List ℕ) → List X → ℕ → List ℕ → List ℕ → Type 0
 Lacks f xs i text all = text ++ flat_map f (drop i xs) ≡ all
 
@@ -31,7 +31,7 @@ reason_line name port counters reason = nonzero_line name port (number_of reason
 abbrev port_line : LineSetting → NodeAt → ℕ → List ℕ
 port_line site n port = if has_port site port then port_counts (name_at site.cfg site.node) port (n.counters port) else []
 
--- the lines of the reasons from the i-th on are lacking
+-- the lines of the reasons from the i-th on are still missing
 unfoldable pub LacksReasons : List ℕ → ℕ → List ℕ → ℕ → List ℕ → List ℕ → Type 0
 LacksReasons name port counters i text old = Lacks (reason_line name port counters) reasons i text (old ++ port_counts name port counters)
 
@@ -50,7 +50,7 @@ pub no_reason : (name : List ℕ) (port : ℕ) (counters : List ℕ) (i : ℕ) (
 unfolding LacksReasons
 no_reason name port counters i text old h is = lacks_none (reason_line name port counters) reasons i text (old ++ port_counts name port counters) h is
 
--- the lines of the ports from the i-th on are lacking
+-- the lines of the ports from the i-th on are still missing
 unfoldable pub LacksPorts : LineSetting → NodeAt → ℕ → List ℕ → List ℕ → Type 0
 LacksPorts site n i text old = Lacks (port_line site n) port_numbers i text (old ++ node_counts site n)
 
@@ -58,7 +58,7 @@ pub all_ports : (site : LineSetting) (n : NodeAt) (old : List ℕ) → LacksPort
 unfolding LacksPorts
 all_ports site n old = refl
 
--- a port of the node, and a number that is none
+-- a port of the node, and a number that is not a port of it
 pub port_less : (site : LineSetting) (n : NodeAt) (i port : ℕ) (name text now old : List ℕ) → i < 18 → LacksPorts site n i text old → port ≡ get_or port_numbers i 0 → has_port site port ≡ true
     → name ≡ name_at site.cfg site.node → now ≡ text ++ port_counts name port (n.counters port) → LacksPorts site n (i + 1) now old
 unfolding LacksPorts

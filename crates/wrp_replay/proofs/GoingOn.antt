@@ -222,7 +222,7 @@ law_if site false law some fact least greatest answers = record {
   answers = tt;
 }
 
--- Where there is no memory for the node
+-- If memory runs out for the node
 
 pub nothing_accepted : (site : LineSetting) → Accepts site [] []
 nothing_accepted site = ([], refl, refl)

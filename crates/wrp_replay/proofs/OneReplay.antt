@@ -1,4 +1,4 @@
--- Lines are one list of inputs, and a list of inputs writes one text.
+-- Lines give one list of inputs, and a list of inputs writes one text.
 use Rattle.std.proofs.Common.{◌≡◌, ◌∙◌, refl, ap, ap₂, sym, ℕ, ℤ, if◌then◌else◌, Result, Ok, Err, List, [], ◌∷◌, ◌++◌, ◌+◌, length, map, reverse}
 use Rattle.std.proofs.lemmas.List.{map-append, reverse-append, reverse-reverse}
 use Rattle.wrp_base.specs.declared.fault.TraceFault.{TraceFault}
@@ -32,7 +32,7 @@ map_reverse (t ∷ inputs) =
     ap (map ok) (turned t inputs) ∙ map-append ok (reverse inputs) (t ∷ []) ∙ ap (λ (rs : List (Result Input TraceFault)). rs ++ ok t ∷ []) (map_reverse inputs)
     ∙ sym (reverse-append (ok t ∷ []) (map ok inputs))
 
--- one line more
+-- one more line
 pub one_more : (site : LineSetting) (lines : List (List ℕ)) (inputs : List Taken) (line : List ℕ) (t : Taken) → AreInputs site lines inputs → read_of site line ≡ Ok t.input
     → AreInputs site (lines ++ line ∷ []) (t ∷ inputs)
 one_more site lines inputs line t are is =
@@ -48,7 +48,7 @@ heads_same (t ∷ a) (u ∷ b) e =
     let rest : map ok a ≡ map ok b = cc in
     (cc, heads_same a b rest)
 
--- lines are one list of inputs
+-- lines give one list of inputs
 same_inputs : (site : LineSetting) (lines : List (List ℕ)) (a b : List Taken) → AreInputs site lines a → AreInputs site lines b → SameInputs a b
 same_inputs site lines a b p q =
     let both : reverse (map ok a) ≡ reverse (map ok b) = sym (map_reverse a) ∙ sym p ∙ q ∙ map_reverse b in

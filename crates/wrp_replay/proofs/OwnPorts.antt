@@ -14,14 +14,14 @@ use Rattle.wrp_course.proofs.PortNumbers.{has-place}
 use Rattle.wrp_trace.specs.LineSetting.{LineSetting, has_port}
 use Rattle.wrp_replay.specs.DownLaw.{node_setting_at}
 
--- a link names the port at one of its ends, or a later one does
+-- a link names the port at one of its ends, or a later link does
 either : (a b : Bool) (link : LinkCfg) (upper lower : Place) (later : Option LinkCfg) (place : Option Place) → is_some later ≡ is_some place →
     is_some (if a || b then Some link else later) ≡ is_some (if a then Some upper else (if b then Some lower else place))
 either true b link upper lower later place e = refl
 either false true link upper lower later place e = refl
 either false false link upper lower later place e = e
 
--- there is a link that names it exactly where it is at an end of one
+-- there is a link that names the port if and only if the port is at an end of a link
 named_placed : (n p k : ℕ) (links : List LinkCfg) → is_some (find (names_port n p) links) ≡ is_some (place_among n p k links)
 named_placed n p k [] = refl
 named_placed n p k (link ∷ links) =
@@ -35,6 +35,6 @@ is_own site p has =
     ∙ sym (named_placed site.node p 0 site.cfg.links.items)
     ∙ sym (some_bare (pair_of site.node p) (link_at site.cfg site.node p)) ∙ has
 
--- and one of a node that stands for some inputs
+-- and one of the ports of a node that stands for some inputs
 pub is_among_own : (site : LineSetting) (n : NodeAt) (parts : Parts) (p : ℕ) → PartsAt (node_setting_at site) n parts → has_port site p ≡ true → is_among p parts.ports ≡ true
 is_among_own site n parts p at has = ap (λ (ns : List ℕ). list_any (λ q. q == p) ns) at.numbers ∙ is_own site p has

@@ -1,4 +1,4 @@
--- A line with parts reads into a place as they do, and a line without parts has no fields.
+-- A line with parts is read into a place as its parts are, and a line without parts has no fields.
 use Rattle.std.proofs.Common.{ℕ, List, Err, Result, refl, sym, subst}
 use Rattle.csv.specs.Records.{Row, fields_of}
 use Rattle.wrp_base.specs.declared.fault.TraceFault.{TraceFault}

@@ -22,7 +22,7 @@ use Rattle.wrp_servo.specs.Measuring.{is_in, x_of}
 use Rattle.wrp_servo.specs.Servo.{AllAnswered}
 use Rattle.wrp_replay.specs.DownLaw.{AnswersBy}
 
--- A node without a slave port has no servo that is told anything
+-- A node without a slave port has no servo that is given anything
 
 none_told : (b : Bool) (call : Option Call) (calls : List Call) → b ≡ false → called (if b then call else None) calls ≡ calls
 none_told true call calls e = absurd (cc)
@@ -102,7 +102,7 @@ pub run_of : {F : Type 0} {post : F → ℤ → ℤ → Type 0} (law : ℤ → �
 run_of {post = post} law fixed node inputs stands by =
     record { said = stands.said; answered = by_servo post law fixed inputs node.control.told by stands.is_at.control.servo }
 
--- what it puts out is that of its run
+-- what it puts out is what its run puts out
 pub node_run : {F : Type 0} {post : F → ℤ → ℤ → Type 0} (law : ℤ → ℤ) (fixed : NodeSetting) (old new : NodeOf F) (before : List Taken) (t : Taken) (outs : List Output)
     → StandsFor post fixed old before → Steps post old new t outs → IfSome (law_in new.control) (AnswersBy post law)
     → NodeRun (answers_by law) fixed before t outs

@@ -1,4 +1,4 @@
--- The delay law of the link above a node: what it answers, and from where to where it may be asked
+-- The delay law of the link above a node: what it answers, and the range in which it may be asked
 -- (this project's profile).
 use Rattle.std.specs.Prelude.{ℤ, pos, neg_ℤ, ◌^◌, ◌≡◌, ◌≤ℤ◌, Option, None, Some, is_some, IfSome}
 use Rattle.wrp_network.specs.declared.network.LinkCfg.{LinkCfg}
@@ -11,18 +11,18 @@ use Rattle.wrp_node.specs.NodeAt.{NodeSetting}
 use Rattle.wrp_node.specs.Set.{set_of}
 use Rattle.wrp_trace.specs.LineSetting.{LineSetting}
 
--- the delay down where x is the delay both ways, in tau: the value of the fibre's table, or else the
--- exact fraction (2^39 + kappa) / 2^40 of x, rounded down
+-- the delay down if x is the delay both ways, in tau: the value of the fibre's table if there is
+-- one, otherwise the exact fraction (2^39 + kappa) / 2^40 of x, rounded down
 abbrev pub down_by : Option TableAt → ℤ → ℤ → ℤ
 down_by None kappa x = floor_at kappa x
 down_by (Some table) kappa x = table_value table.points x
 
--- the least x: -2^30, or that of the table's first point
+-- the least x: -2^30, or the x of the table's first point
 abbrev pub least_by : Option TableAt → ℤ
 least_by None = neg_ℤ (pos (2 ^ 30))
 least_by (Some table) = first_x table.points
 
--- the greatest x: 2^53, or that of the table's last point
+-- the greatest x: 2^53, or the x of the table's last point
 abbrev pub greatest_by : Option TableAt → ℤ
 greatest_by None = pos (2 ^ 53)
 greatest_by (Some table) = last_x table.points
@@ -52,13 +52,13 @@ node_setting_at site = record {
   hi = greatest_over site.db (link_above site.cfg site.node);
 }
 
--- in its range each answer of a kept closure is this law's
+-- within the law's range, each answer of a kept closure is this law's answer
 pub record AnswersBy {F : Type 0} (post : F → ℤ → ℤ → Type 0) (law : ℤ → ℤ) (kept : LawOf F)
     : Type 0 where
   pub answer : (x y : ℤ) → kept.lo ≤ℤ x → x ≤ℤ kept.hi → post kept.closure x y → y ≡ law x
 
--- the law that a node is given: there is one exactly where a link is above it, it keeps its fact, and
--- its range and its answers are those of that link
+-- the law that a node is given: there is one if and only if a link is above the node, it keeps its
+-- fact, and its range and its answers are those of that link
 pub record IsLawAt {F : Type 0} (pre : F → ℤ → Type 0) (post : F → ℤ → ℤ → Type 0) (site : LineSetting)
     (law : Option (LawOf F)) : Type 0 where
   pub some : is_some law ≡ is_some (link_above site.cfg site.node)

@@ -17,8 +17,8 @@ use Rattle.wrp_replay.specs.DownLaw.{law_at, node_setting_at}
 abbrev pub output_lines : LineSetting → ℕ → List Output → List ℕ
 output_lines site tick outs = flat_map (λ o. output_line site.cfg site.node tick o None) outs
 
--- the run of a node over these inputs, newest first, writes this: for each input the lines of what it
--- puts out, with the node's tick count after it
+-- the run of a node over these inputs, newest first, writes this: for each input the lines of what
+-- the node puts out, with its tick count after that input
 abbrev pub Writes : LineSetting → List Taken → List ℕ → Type 0
 Writes site [] text = text ≡ []
 Writes site (t ∷ before) text =
@@ -31,19 +31,19 @@ abbrev pub port_numbers : List ℕ
 port_numbers =
     1 ∷ 2 ∷ 3 ∷ 4 ∷ 5 ∷ 6 ∷ 7 ∷ 8 ∷ 9 ∷ 10 ∷ 11 ∷ 12 ∷ 13 ∷ 14 ∷ 15 ∷ 16 ∷ 17 ∷ 18 ∷ []
 
--- the line of a counter of the node with this name, where it is not 0
+-- the line of a counter of the node with this name, if it is not 0
 abbrev pub nonzero_line : List ℕ → ℕ → ℕ → ℕ → List ℕ
 nonzero_line name port reason value =
     if value == 0 then [] else count_line_of name port reason value
 
--- those of the counters of a port, by reason
+-- the lines of the counters of a port, by reason
 abbrev pub port_counts : List ℕ → ℕ → List ℕ → List ℕ
 port_counts name port counters =
     flat_map
     (λ reason. nonzero_line name port (number_of reason) (count_at counters (number_of reason)))
     reasons
 
--- those of all ports of a node, by port
+-- the lines of the counters of all ports of a node, by port
 abbrev pub node_counts : LineSetting → NodeAt → List ℕ
 node_counts site n =
     flat_map

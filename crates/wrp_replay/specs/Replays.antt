@@ -19,8 +19,8 @@ use Rattle.wrp_records.specs.LineMeaning.{LineMeaning, bars_none, meaning_by}
 use Rattle.wrp_replay.specs.NodeText.{Writes, node_counts}
 use Rattle.wrp_records.specs.Refusals.{bad_network_line, bad_trace_line}
 
--- the text describes the network that has this node; its names are taken without what stands in their
--- unused room
+-- the text describes the network that has this node; what is in the unused room of its names is
+-- ignored
 pub record IsNetworkOf (text : List ℕ) (site : LineSetting) : Type 0 where
   pub net : Network
   pub reads : IsReadingOf text (Ok net)
@@ -31,13 +31,13 @@ pub record IsNetworkOf (text : List ℕ) (site : LineSetting) : Type 0 where
 abbrev pub IsAccepted : List ℕ → Type 0
 IsAccepted text = (net : Network) × IsReadingOf text (Ok net)
 
--- the text describes no network, as this line tells
+-- the text describes no network, as this line says
 abbrev pub IsRefusedBy : List ℕ → List ℕ → Type 0
 IsRefusedBy text line =
     (code : ℕ) × (place : ArrayString) × IsReadingOf text (Err (Fault code place))
     × (line ≡ bad_network_line code place.bytes)
 
--- each line says its input to the node; the inputs stand newest first
+-- each line says its input to the node; the inputs are newest first
 abbrev pub AreInputs : LineSetting → List (List ℕ) → List Taken → Type 0
 AreInputs site lines inputs =
     map (read_of site) lines ≡ map (λ (t : Taken). Ok t.input) (reverse inputs)
@@ -47,7 +47,7 @@ abbrev pub Accepts : LineSetting → List (List ℕ) → List ℕ → Type 0
 Accepts site lines text =
     (inputs : List Taken) × AreInputs site lines inputs × Writes site inputs text
 
--- behind some lines a line is no input of the node
+-- after some lines a line is not an input of the node
 abbrev pub Refuses : LineSetting → List (List ℕ) → List ℕ → Refusal → List ℕ → Type 0
 Refuses site lines line BadTrace last =
     (fault : TraceFault) × (read_of site line ≡ Err fault)

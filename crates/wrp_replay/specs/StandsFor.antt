@@ -24,7 +24,7 @@ use Rattle.wrp_replay.specs.Replays.{AreInputs}
 abbrev pub OwnsPorts : LineSetting → List PortPlace → Type 0
 OwnsPorts site places = (p : ℕ) → has_port site p ≡ true → is_among p places ≡ true
 
--- the node that is replayed, of the network without what stands in the unused room of its names
+-- the node that is replayed, in the network without what is in the unused room of its names
 abbrev pub line_setting_at : Replayed → LineSetting
 line_setting_at replayed = record {
   cfg = bare_cfg replayed.net.now.cfg;
@@ -32,7 +32,7 @@ line_setting_at replayed = record {
   node = replayed.node;
 }
 
--- the node holds what the lines made that it has taken, and they wrote this
+-- the node is in the state that the lines it has taken led to, and they wrote this
 pub record TakenSo {F : Type 0} (post : F → ℤ → ℤ → Type 0) (held : ReplayedNode F)
     (lines : List (List ℕ)) (inputs : List Taken) (text : List ℕ) : Type 0 where
   pub are : AreInputs (line_setting_at held.replayed) lines inputs
@@ -42,8 +42,8 @@ pub record TakenSo {F : Type 0} (post : F → ℤ → ℤ → Type 0) (held : Re
 abbrev pub HasTaken : {F : Type 0} → (F → ℤ → ℤ → Type 0) → ReplayedNode F → List (List ℕ) → Type 0
 HasTaken post held lines = (inputs : List Taken) × (text : List ℕ) × TakenSo post held lines inputs text
 
--- it can take a line: it is a node of an accepted network, its law is that of the link above it, and
--- its name and its bound in TRACK are at hand
+-- it can take a line: it is a node of an accepted network, its law is the law of the link above it,
+-- and its name and its bound in TRACK are at hand
 pub record IsReady {F : Type 0} (pre : F → ℤ → Type 0) (post : F → ℤ → ℤ → Type 0)
     (held : ReplayedNode F) : Type 0 where
   pub valid : IsValid pre post held.node
@@ -52,8 +52,8 @@ pub record IsReady {F : Type 0} (pre : F → ℤ → Type 0) (post : F → ℤ �
   pub name : held.name.now ≡ name_at (line_setting_at held.replayed).cfg held.replayed.node
   pub bound : held.bound ≡ pos (path_of (line_setting_at held.replayed).cfg held.replayed.node)
 
--- the node took an input: for each list of inputs that it stood for it stands for one with this input
--- in front, and what is written are the lines of its run
+-- the node took an input: for each list of inputs that it stood for, it now stands for this list with
+-- the new input in front; and the lines of its run are written
 pub record TookInput {F : Type 0} (post : F → ℤ → ℤ → Type 0) (held : ReplayedNode F)
     (new : NodeOf F) (input : Input) (inputs : List Taken) (text : List ℕ) : Type 0 where
   pub taken : Taken

@@ -21,7 +21,7 @@ const PORTS: [u16; 18] = [
     1, 2, 3, 4, 5, 6, 7, 8, 9, 10, 11, 12, 13, 14, 15, 16, 17, 18,
 ];
 
-// Appends the line of a counter, where it is not 0.
+// Appends the line of a counter, if it is not 0.
 fn append_count(
     name: &str,
     port: u16,
@@ -40,7 +40,7 @@ fn append_count(
     append_count_line(name, port, reason, value, text)
 }
 
-// Appends those of a port of the node.
+// Appends the lines of the counters of a port of the node.
 fn append_port<F: Fn(i64) -> i64>(
     name: &str,
     node: &Node<F>,
@@ -60,15 +60,15 @@ fn append_port<F: Fn(i64) -> i64>(
     Ok(())
 }
 
-// Whether the node has a port of this number.
+// Whether the node has a port with this number.
 fn has_port(replayed: Replayed<'_>, port: u16) -> bool
     ensures { result ≡ has_port (line_setting_at replayed.entry) port }
 {
     pair_at(&replayed.net.cfg, replayed.node, port).is_some()
 }
 
-/// Appends those of all ports of the node. `AllocError` where there is no memory: then nothing is
-/// known of `text`.
+/// Appends the lines of the counters of all ports of the node. `AllocError` if memory runs out:
+/// then nothing is known of `text`.
 pub fn append_counts<F: Fn(i64) -> i64>(
     replayed: Replayed<'_>,
     name: &str,

@@ -1,4 +1,4 @@
-//! The delay law of the link above a node, as the network and its database tell it.
+//! The delay law of the link above a node, as the network and its database give it.
 ghost use Rattle.std.specs.Prelude.{◌≡◌, if◌then◌else◌, None, Some, IfSome, is_some};
 ghost use Rattle.wrp_network.specs.Network as network;
 ghost use Rattle.wrp_config.specs.Accepted.{IsAccepted};
@@ -10,7 +10,7 @@ use wrp_config::link_above;
 use wrp_law::{DelayLaw, LinkLaw};
 use wrp_network::LinkCfg;
 
-// The law of a link: that of its fibre's table, where it has one.
+// The law of a link: the law of its fibre's table, if it has one.
 fn law_of<'a>(replayed: Replayed<'a>, link: &LinkCfg) -> LinkLaw<'a>
     requires accepted { IsAccepted replayed.net.now.cfg replayed.net.now.db }
     requires link { network.link_above replayed.net.now.cfg replayed.node ≡ Some link.now }
@@ -41,7 +41,7 @@ pub fn law_above<'a>(replayed: Replayed<'a>) -> Option<LinkLaw<'a>>
     }
 }
 
-/// The law of the link above, or one that nobody asks where there is none.
+/// The law of the link above, or a law that nobody asks if there is none.
 pub fn asked<'a>(above: Option<LinkLaw<'a>>) -> LinkLaw<'a>
     requires { IfSome above IsSound }
     ensures sound { IsSound result }
@@ -53,7 +53,7 @@ pub fn asked<'a>(above: Option<LinkLaw<'a>>) -> LinkLaw<'a>
     }
 }
 
-/// A law where there is one to keep. None exactly where there is none to keep.
+/// A law if there is one to keep. None if and only if there is none to keep.
 pub fn kept_if<F: Fn(i64) -> i64>(has_law: bool, law: DelayLaw<F>) -> Option<DelayLaw<F>>
     ensures { result ≡ (if has_law then Some law else None) }
 {

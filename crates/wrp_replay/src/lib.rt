@@ -1,5 +1,6 @@
-//! The replay of a node: the record lines of its inputs, what each makes the node put out, and the counters that close them;
-//! and the delay law of the link above a node, as its network tells it. Lines are this project's profile.
+//! The replay of a node: the record lines of its inputs, what each makes the node put out, and the counters that
+//! close them; and the delay law of the link above a node, as its network gives it. Lines are this project's
+//! profile.
 #![tactic(auto)]
 
 mod counting;

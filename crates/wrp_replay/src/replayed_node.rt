@@ -26,8 +26,8 @@ use wrp_node::{Input, Node, Output, Outputs, node_set, one_run};
 use wrp_records::{Closing, Machine, Taken, refuse};
 use wrp_trace::read_input_fields;
 
-/// A node as far as it is replayed: the node, what its lines say of it, and a place for an input and
-/// one for its outputs, which serve record after record.
+/// A node as far as it is replayed: the node, what its lines say of it, and two places that serve
+/// record after record, one for an input and one for its outputs.
 #[derive(Drop)]
 pub struct ReplayedNode<'a, F: Fn(i64) -> i64> {
     replayed: Replayed<'a>,
@@ -39,8 +39,8 @@ pub struct ReplayedNode<'a, F: Fn(i64) -> i64> {
 }
 
 impl<'a, F: Fn(i64) -> i64> ReplayedNode<'a, F> {
-    /// A node before its first record, with the law of the link above it. `AllocError` where there
-    /// is no memory for it: no node is made.
+    /// A node before its first record, with the law of the link above it. `AllocError` if memory
+    /// runs out: no node is made.
     pub fn new(
         alloc: Global,
         replayed: Replayed<'a>,

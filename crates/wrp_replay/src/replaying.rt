@@ -19,8 +19,8 @@ use wrp_io::{Sink, Source};
 use wrp_law::DelayLaw;
 use wrp_records::{Reader, Status, run_lines};
 
-// Replays the records that a reader gives with a law, which is that of the link above the node where
-// there is one, and which else nobody asks.
+// Replays the records that a reader gives with a law: the law of the link above the node if there is
+// such a link, otherwise a law that nobody asks.
 fn replay_by<F: Fn(i64) -> i64, S: Source, K: Sink>(
     alloc: Global,
     replayed: Replayed<'_>,
@@ -50,7 +50,8 @@ fn replay_by<F: Fn(i64) -> i64, S: Source, K: Sink>(
     }
 }
 
-/// Replays the node over the records that a reader gives. The law of the link above it is a closure, which is made here.
+/// Replays the node over the records that a reader gives. The law of the link above it is a closure, which is made
+/// here.
 pub fn replay<S: Source, K: Sink>(
     alloc: Global,
     replayed: Replayed<'_>,
@@ -72,7 +73,7 @@ pub fn replay<S: Source, K: Sink>(
             requires sound { IsSound link }
             requires lo { least_of link ≤ℤ x }
             requires hi { x ≤ℤ most_of link }
-            // The floor of the fraction, or the table's value where the link has a table.
+            // The floor of the fraction, or the table's value if the link has a table.
             ensures down { result ≡ down_of link.entry x }
             ensures near { IsNear (kind_of link.entry) (error_of link.entry) x result }
         { link.down(x) },

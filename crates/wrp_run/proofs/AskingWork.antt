@@ -36,7 +36,7 @@ asks_so asked (Some (command.OnNetwork what)) is = is
 asks_so asked (Some (command.Alone alone)) is = is
 asks_so asked (Some (command.Loop seed)) is = is
 
--- the task of a work that is asked for, of which its lines mean the same
+-- the task of a work that is asked for; its lines mean the same for both
 pub record WorkTask (asked : CommandLine) (text : List ℕ) (work : Work) (s : Setting) : Type 0 where
   pub task : Task
   pub asks : AsksFor asked text task
@@ -94,7 +94,7 @@ fits_same net own (works.Audit (Some n)) same fits =
     subst (λ (k : ℕ). n < k) count fits
 fits_same net own (works.Simulate seed) same fits = tt
 
--- behind no record lines nothing is written
+-- after no record lines nothing is written
 pub nothing_done : (work : Work) (s : Setting) → (work_meaning work s).accepts [] []
 nothing_done (works.Audit emit) s = nothing_accepted emit s
 nothing_done (works.Simulate seed) s = (new_scene s.cfg, refl, refl)

@@ -1,4 +1,4 @@
--- How a run ends tells what its words ask for.
+-- How a run ends shows what its words ask for.
 use Rattle.std.proofs.Common.{inl, inr, List, ℕ}
 use Rattle.wrp_records.specs.declared.status.Status.{Status}
 use Rattle.wrp_records.specs.declared.status.Status.TheVariants.{Done, Usage, BadNetwork, BadTrace, Broken, ReadFault, WriteFault, LinkFault, TooLarge, OutOfMemory, BadCapture, BadCalib}

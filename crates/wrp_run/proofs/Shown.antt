@@ -1,5 +1,5 @@
--- What an audit and a run over a link wrote is divided into the lines of its event lines, each of which says its event: so each track
--- line follows from them, by the law of all runs.
+-- What an audit and a run over a link wrote is divided into the lines for its event lines, and each event line says
+-- its event: so each track line follows from them, by the law of all runs.
 use Rattle.std.proofs.Common.{◌≡◌, ◌⊎◌, inl, inr, ◌∙◌, refl, ap, ap₂, sym, subst, append-nil, ℕ, ◌+◌, pos, true, false, List, [], ◌∷◌, ◌++◌, map, flat_map, reverse, take, drop, Option, None, Some, Result, Ok}
 use Rattle.std.specs.Prelude.{IfSome, slice_get}
 use Rattle.std.specs.Fmt.{decimal}
@@ -129,7 +129,7 @@ newest_first : (s : Setting) (lines : List (List ℕ)) (events : List Happened) 
 newest_first s lines events are =
     map_back (event_read s.cfg) lines ∙ ap reverse are ∙ sym (map_back read (reverse events)) ∙ ap (map read) (reverse-reverse events)
 
--- Of a network text
+-- A network text
 
 record IsOf (text : List ℕ) (s : Setting) : Type 0 where
   doc : Members
@@ -145,7 +145,7 @@ network_is text s h = record {
 
 -- The front of a text
 
--- what is written is the front of what is due
+-- what is written is the front of what is expected
 record IsFront (due octets : List ℕ) : Type 0 where
   rest : List ℕ
   is : octets ++ rest ≡ due
@@ -285,7 +285,7 @@ loop_shows follow asked input calls status due octets loop carried front =
       follow = follow s events (came_by s events) carried.run (are_came s events net.accepted.names carried.run.each carried.fit);
     }
 
--- what is due shows no track line, or is that of events
+-- the expected output has no track line, or belongs to events
 loop_due : (asked : CommandLine) (input : List ℕ) (calls : List LinkCall) (status : Status) (due : List ℕ) → IsLoopDue asked input calls status due
     → ShowsNone due ⊎ LoopOf asked input calls status due
 loop_due asked input calls status due (inl none) = inl (none_tells TellsNoTrack no_track_last input status due none.0)

@@ -1,5 +1,6 @@
--- In what an audit, a simulation and a run over a link wrote, each step of a clock comes while the last printed state of its servo is
--- SYNC_TAI or SYNC_NSEC: their lines are those of the run's outputs, and further lines that tell neither a step nor a state.
+-- In what an audit, a simulation and a run over a link wrote, each step of a clock comes while the last printed
+-- state of its servo is SYNC_TAI or SYNC_NSEC: their lines are the lines of the run's outputs, and further lines
+-- that say neither a step nor a state.
 use Rattle.std.proofs.Common.{◌≡◌, ◌⊎◌, inl, inr, ◌∙◌, refl, ap, ap₂, sym, subst, append-nil, append_assoc, ℕ, ◌+◌, ◌==◌, Bool, true, false, if◌then◌else◌, List, [], ◌∷◌, ◌++◌, flat_map, drop, length, Option, None, Some, IfSome, arith, codes}
 use Rattle.std.specs.Fmt.{decimal, signed_decimal}
 use Rattle.std.specs.Io.KnownBytes.{Appends}
@@ -62,11 +63,11 @@ use Rattle.wrp_asked.proofs.LastLines.{HasLastLines, after_tells, all_told, brok
 
 -- Lines of words
 
--- a line that has not four words
+-- a line that does not have four words
 abbrev NotFour : List ℕ → Type 0
 NotFour line = (a b c d : List ℕ) → Reads line (a ∷ b ∷ c ∷ d ∷ []) → ⊥
 
--- it tells no step
+-- it says no step
 abbrev NoStep : List ℕ → Type 0
 NoStep line = (node tick cycles : List ℕ) → Reads line (node ∷ tick ∷ codes "step" ∷ cycles ∷ []) → ⊥
 
@@ -132,7 +133,7 @@ no_step_last = record {
       few_words name (sum_words ticks tracks worst bound (servo_word state)) (run_words name ticks tracks worst bound state h) refl;
 }
 
--- Lines behind and in front
+-- Lines after and before
 
 no_more : (before later : List (List ℕ)) (line : List ℕ) → [] ≡ before ++ line ∷ later → ⊥
 no_more [] later line e = cc
@@ -183,7 +184,7 @@ prints_synced Due each WriteFault octets (status, due, count, is, so) =
     front_synced due octets (drop count due) (ap (λ (l : List ℕ). l ++ drop count due) is ∙ take-append-drop count due) (each status due so)
 prints_synced Due each status octets so = front_synced octets octets [] (append-nil octets) (each status octets so)
 
--- Lines among others, which have not four words
+-- Lines among others, which do not have four words
 
 abbrev Among : List (List ℕ) → List (List ℕ) → Type 0
 Among [] ys = ys ≡ []

@@ -1,4 +1,4 @@
--- What the words ask of the top call: a command, and work on a whole network; and what stands in front of its records
+-- What the words ask of the top call: a command, and work on a whole network; and what comes before its records
 -- (this project's profile).
 use Rattle.std.specs.Prelude.{◌≡◌, ◌<◌, ◌≤◌, true, ℕ, Option, None, Some, IfSome, Ok, List, length}
 use Rattle.std.specs.Io.KnownBytes.{Consumes, IsAtEnd}
@@ -33,25 +33,27 @@ AsksSo asked (Some (command.Alone alone)) = IsAlone asked alone
 AsksSo asked (Some (command.Loop seed)) = IsLooping asked seed
 AsksSo asked None = IsCommand asked → ⊥
 
--- this work on a whole network is asked for; a node whose inputs are asked for is the first of its name
+-- this work on a whole network is asked for; a node whose inputs are asked for is the first with its
+-- name
 abbrev pub AsksWork : CommandLine → Network → work.Work → Type 0
 AsksWork asked net (works.Audit None) = IsAuditing asked
 AsksWork asked net (works.Audit (Some n)) =
     (name : List ℕ) × IsEmission asked name × (node_named net.cfg name ≡ Some n)
 AsksWork asked net (works.Simulate seed) = IsSimulation asked seed
 
--- the work is one on this network: a node whose inputs are asked for is one of it
+-- the work belongs to this network: a node whose inputs are asked for is one of its nodes
 abbrev pub FitsWork : Network → work.Work → Type 0
 FitsWork net (works.Audit emit) = IfSome emit (λ n. n < node_count net.cfg)
 FitsWork net (works.Simulate seed) = Unit {0}
 
--- what record lines mean in a work: the inputs of a node, where they are asked for, or else the lines of all; or a simulation
+-- what record lines mean in a work: the inputs of a node, if they are asked for, otherwise the lines of all nodes;
+-- or a simulation
 abbrev pub work_meaning : work.Work → Setting → LineMeaning
 work_meaning (works.Audit emit) s = meaning_for emit s
 work_meaning (works.Simulate seed) s = simulation_of s seed
 
--- What stands in front of the records came: of what the source had first, the octets up to the line that ends the
--- network text, or to the end, were taken, and the text describes this network; the reader holds what follows.
+-- The part before the records came: from what the source had first, the octets up to the line that ends the network
+-- text, or to the end, were taken, and the text describes this network; the reader holds what follows.
 pub record IsFront (first middle : Option (List ℕ)) (text : List ℕ) (r : ReaderAt) (net : Network) : Type 0 where
   pub network : List ℕ
   pub taken : Consumes first middle network

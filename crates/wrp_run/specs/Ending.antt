@@ -1,4 +1,4 @@
--- With which statuses a run may end, by what its words ask for alone (this project's profile).
+-- The statuses with which a run may end, by what its words ask for alone (this project's profile).
 use Rattle.std.specs.Prelude.{◌⊎◌, ℕ, List}
 use Rattle.wrp_records.specs.declared.status.Status.{Status}
 use Rattle.wrp_records.specs.declared.status.Status.TheVariants.{Done, Usage, BadNetwork, BadTrace, Broken, ReadFault, WriteFault, LinkFault, TooLarge, OutOfMemory, BadCapture, BadCalib}
@@ -7,8 +7,8 @@ use Rattle.wrp_asked.specs.Answer.{IsCommand, IsOfNode}
 use Rattle.wrp_asked.specs.Ends.{AsksAlone, AsksEvents, AsksSome}
 use Rattle.wrp_asked.specs.Tasks.{IsLooping}
 
--- words that are no command end with Usage, but for a failed write and for want of memory; and each other status needs
--- a command that may answer it
+-- words that are no command end with Usage, unless a write fails or memory runs out; and each other status needs a
+-- command that may answer it
 abbrev pub MayEnd : CommandLine → Status → Type 0
 MayEnd asked Done = AsksSome asked Done
 MayEnd asked Usage = (IsCommand asked → ⊥) ⊎ ((name : List ℕ) × IsOfNode asked name)

@@ -17,8 +17,8 @@ abbrev pub in_order : (Seen → List (List ℕ)) → List Seen → List (List �
 in_order lines [] = []
 in_order lines (it ∷ older) = in_order lines older ++ lines it
 
--- what was written is the front of the lines of some event lines and of further lines, which are no track lines; and each track
--- line follows from the network file and from the event lines and the step lines up to it
+-- what was written is the front of the lines of some event lines and of further lines, which are not track lines;
+-- and each track line follows from the network file and from the event lines and the step lines up to it
 pub record Shows (Come : List Seen → Type 0) (lines : Seen → List (List ℕ)) (input octets : List ℕ) : Type 0 where
   pub doc : Members
   pub text : IsTextOf doc (network_text input)
@@ -36,7 +36,8 @@ pub record Shows (Come : List Seen → Type 0) (lines : Seen → List (List ℕ)
 abbrev pub ShowsNone : List ℕ → Type 0
 ShowsNone octets = AllByRecursion TellsNoTrack (lines_of octets)
 
--- of an audit: the event lines are the first records of the input, and of each its own lines are printed
+-- for an audit: the event lines are the first records of the input, and for each event its own lines are
+-- printed
 abbrev pub ComeFrom : List ℕ → List Seen → Type 0
 ComeFrom input seen =
     (behind : List (List ℕ)) ×
@@ -45,7 +46,8 @@ ComeFrom input seen =
 abbrev pub AuditFollows : List ℕ → List ℕ → Type 0
 AuditFollows input octets = ShowsNone octets ⊎ Shows (ComeFrom input) (λ it. it.lines) input octets
 
--- of a run over a link: each event line is printed behind `= `, as no other line is, and then its own lines
+-- for a run over a link: each event line is printed after `= `, as no other line is, and then come its own
+-- lines
 abbrev pub marked : Seen → List ℕ
 marked it = codes "= " ++ it.event ++ 10 ∷ []
 

@@ -10,8 +10,8 @@ use Rattle.wrp_asked.specs.Tasks.{IsAuditing, IsLooping, IsSimulation}
 abbrev pub RunsNetwork : CommandLine → Type 0
 RunsNetwork asked = IsAuditing asked ⊎ ((seed : ℕ) × (IsSimulation asked seed ⊎ IsLooping asked seed))
 
--- in the whole lines that these bytes begin with, each line NODE TICK step CYCLES comes while the node's last state is sync-tai or
--- sync-nsec; what was cut off by a failed write is no whole line
+-- in the whole lines that these bytes begin with, each line NODE TICK step CYCLES comes while the node's last state
+-- is sync-tai or sync-nsec; a line cut off by a failed write is not a whole line
 abbrev pub StepsComeInSync : List ℕ → Type 0
 StepsComeInSync octets =
     (lines : List (List ℕ)) (cut : List ℕ) → AllByRecursion IsWhole lines → octets ≡ concat lines ++ cut →

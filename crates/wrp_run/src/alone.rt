@@ -1,4 +1,4 @@
-//! Commands that stand alone: each is handed to its machine.
+//! Commands that stand alone: each is given to its machine.
 ghost use Rattle.wrp_records.specs.declared.status.Status.{Status};
 ghost use Rattle.wrp_records.specs.Passages.{FailsBy, PassesAll, passage};
 ghost use Rattle.wrp_commands.specs.declared.alone.Alone.{Alone};
@@ -16,7 +16,7 @@ use wrp_pcap::inspect;
 use wrp_plain::lines::plain;
 use wrp_records::Status;
 
-// Hands the source and the sink to the command's machine.
+// Gives the source and the sink to the command's machine.
 fn handle<S: Source, K: Sink>(alloc: Global, alone: Alone, source: &mut S, sink: &mut K) -> Status
     ensures { PassesAll (alone_meaning alone) (passage S.left S.faults source.old source.new)
         (passage K.held K.faults sink.old sink.new) result }

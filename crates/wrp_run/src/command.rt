@@ -53,7 +53,7 @@ fn read_command<'a>(alloc: Global, words: &'a [&'a str]) -> Result<Option<Comman
     read_words(alloc, words)
 }
 
-// Runs the command that the words name. A loop alone calls the link.
+// Runs the command that the words name. Only a loop calls the link.
 fn run_command<S: Source, K: Sink, N: Link>(
     alloc: Global,
     words: &[&str],
@@ -84,7 +84,7 @@ fn run_command<S: Source, K: Sink, N: Link>(
     }
 }
 
-/// Runs the command that the words name: reads the source as a stream, writes what is due to the sink
+/// Runs the command that the words name: reads the source as a stream, writes the expected output to the sink
 /// before more is read, and answers the status.
 pub fn run<S: Source, K: Sink, N: Link>(
     alloc: Global,
@@ -101,11 +101,12 @@ pub fn run<S: Source, K: Sink, N: Link>(
       link = passage N.told N.faults link.old link.new;
     }) result }
 
-    // The status by what the words ask for: words that are no command end with Usage, but for a
-    // failed write and for want of memory, and each other status needs a command that may answer it.
+    // The status by what the words ask for: words that are no command end with Usage, unless a write
+    // fails or memory runs out, and each other status needs a command that may answer it.
     ensures may { MayEnd (asked_in words.now) result }
 
-    // A fault is told: where the source, the sink or the link failed in this run, the status says so.
+    // Every fault is reported: if the source, the sink or the link failed in this run, the status
+    // says so.
     ensures read_kept { (result ≡ Status.ReadFault → ⊥)
         → S.faults source.new ≡ S.faults source.old }
     ensures write_kept { (result ≡ Status.WriteFault → ⊥)
@@ -113,7 +114,8 @@ pub fn run<S: Source, K: Sink, N: Link>(
     ensures link_kept { (result ≡ Status.LinkFault → ⊥)
         → N.faults link.new ≡ N.faults link.old }
 
-    // What is due is what is answered and written, but for a fault and for want of memory.
+    // The expected status is answered and the expected octets are written, unless there is a fault
+    // or memory runs out.
     ensures due { (status : Status) (octets : List ℕ) (calls : List LinkCall) → is_answer result ≡ true
         → IsToldOf (passage N.told N.faults link.old link.new) calls
         → IfSome (S.left source.old) (λ input. Answer (asked_in words.now) input calls status octets
@@ -127,23 +129,23 @@ pub fn run<S: Source, K: Sink, N: Link>(
         → IfSome (S.left source.old) (λ input. Answer (asked_in words.now) input calls status octets
         → (result ≡ status) × Appends (K.held sink.old) (K.held sink.new) octets) }
 
-    // The aim of an audit, of what is written, for each status.
+    // The aim of an audit, for what is written, for each status.
     ensures headline { IsAuditing (asked_in words.now) → IfSome (S.left source.old) (λ input.
         (octets : List ℕ) × Appends (K.held sink.old) (K.held sink.new) octets
         × Headline (asked_in words.now) input result octets) }
 
-    // The same of an audit that is asked for the inputs of a node, which prints no track line.
+    // The same for an audit that is asked for the inputs of a node, which prints no track line.
     ensures emitted { (name : List ℕ) → IsEmission (asked_in words.now) name → IfSome (S.left source.old) (λ input.
         (octets : List ℕ) × Appends (K.held sink.old) (K.held sink.new) octets
         × EmitHeadline (asked_in words.now) input result octets) }
 
-    // Of a replay, for each status: it wrote what its node puts out at the inputs that the records say, and a frame
-    // that the node drops for one of the reasons 1 to 12 leaves one counter raised and nothing else changed.
+    // For a replay, for each status: it wrote what its node puts out for the inputs that the records say, and a
+    // frame that the node drops for one of the reasons 1 to 12 leaves one counter raised and nothing else changed.
     ensures replayed { (name : List ℕ) → IsReplay (asked_in words.now) name → IfSome (S.left source.old) (λ input.
         (octets : List ℕ) × Appends (K.held sink.old) (K.held sink.new) octets
         × ReplayHeadline (asked_in words.now) input result octets) }
 
-    // The same of a simulation, whose events keep all premises: they are a run of the network.
+    // The same for a simulation, whose events keep all premises: they are a run of the network.
     ensures simulated { (seed : ℕ) → IsSimulation (asked_in words.now) seed → IfSome (S.left source.old) (λ input.
         (octets : List ℕ) × Appends (K.held sink.old) (K.held sink.new) octets
         × SimHeadline (asked_in words.now) input result octets) }
@@ -156,38 +158,39 @@ pub fn run<S: Source, K: Sink, N: Link>(
         (octets : List ℕ) × Appends (K.held sink.old) (K.held sink.new) octets
         × HasAim alone input result octets) }
 
-    // The same of a run over a link: what it wrote is told by some calls that the link told more.
+    // The same for a run over a link: some calls that the link added determine what the run wrote.
     ensures looped { (seed : ℕ) → IsLooping (asked_in words.now) seed → IfSome (S.left source.old) (λ input.
         (octets : List ℕ) × (calls : List LinkCall) × Appends (K.held sink.old) (K.held sink.new) octets
         × Grew (N.told link.old) (N.told link.new) calls
         × LoopHeadline (asked_in words.now) input calls result octets) }
 
-    // Of an audit, a simulation and a run over a link, for each status: in each line NODE TICK track EST BOUND true OFF that
-    // is written, with its LF, the size of OFF is at most BOUND.
+    // For an audit, a simulation and a run over a link, for each status: in each line NODE TICK track EST BOUND
+    // true OFF that is written, with its LF, the size of OFF is at most BOUND.
     ensures tracks { ReportsTrueOffsets (texts_of words.now) → IfSome (S.left source.old) (λ input.
         (octets : List ℕ) × Appends (K.held sink.old) (K.held sink.new) octets × TracksAreWithinBounds octets) }
 
-    // Of an audit, for each status: in each such line BOUND is that of the node's path in the network file, and OFF is the
-    // offset of the node's last `up` event, and to it are added the drift of each `pass` since and a period for each of the
-    // CYCLES of each `step` line of the node since. TICK of each line counts the `tick` events of its node since the last
-    // `up`. The event lines are those of the input.
+    // For an audit, for each status: in each such line BOUND is the bound of the node's path in the network file,
+    // and OFF is the offset of the node's last `up` event, plus the drift of each `pass` since, plus a period for
+    // each of the CYCLES of each `step` line of the node since. TICK of each line counts the `tick` events of its
+    // node since the last `up`. The event lines are those of the input.
     ensures follows { IsAuditing (asked_in words.now) → IfSome (S.left source.old) (λ input.
         (octets : List ℕ) × Appends (K.held sink.old) (K.held sink.new) octets × AuditFollows input octets) }
 
-    // The same of a run over a link, whose event lines are those that it writes behind `= `.
+    // The same for a run over a link, whose event lines are those that it writes after `= `.
     ensures looped_follows { (seed : ℕ) → IsLooping (asked_in words.now) seed → IfSome (S.left source.old) (λ input.
         (octets : List ℕ) × Appends (K.held sink.old) (K.held sink.new) octets × LoopFollows input octets) }
 
-    // Of an audit, a simulation and a run over a link, for each status: each line NODE TICK step CYCLES
-    // that is written, with its LF, comes while the last line NODE TICK servo STATE of this node before
-    // it says sync-tai or sync-nsec.
+    // For an audit, a simulation and a run over a link, for each status: each line NODE TICK step CYCLES that is
+    // written, with its LF, comes while the last line NODE TICK servo STATE of this node before it says sync-tai
+    // or sync-nsec.
     ensures synced { RunsNetwork (asked_in words.now) → IfSome (S.left source.old) (λ input.
         (octets : List ℕ) × Appends (K.held sink.old) (K.held sink.new) octets
         × StepsComeInSync octets) }
 
-    // Words that are no command are refused with nothing read. No link is used but by a loop, and by a loop not where
-    // the status tells of its words, its network, a record or the source. That it is used only behind the whole scenario,
-    // also where memory lacked, a line was too large or a write failed, stands in `ends`, of a link that tells its calls.
+    // Words that are no command are refused with nothing read. Only a loop uses the link, and a loop does not use
+    // it if the status is about its words, its network, a record or the source. `ends` says, for a link that shows
+    // its calls, that the link is used only after the whole scenario, also if memory ran out, a line was too large
+    // or a write failed.
     ensures unread { (IsCommand (asked_in words.now) → ⊥) → source.new ≡ source.old }
     ensures link { ((seed : ℕ) → IsLooping (asked_in words.now) seed → ⊥) → link.new ≡ link.old }
     ensures unstarted { IsUncalled result → link.new ≡ link.old }

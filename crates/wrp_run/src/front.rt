@@ -1,4 +1,4 @@
-//! What stands in front of the records of a command on a network: the network text.
+//! What comes before the records of a command on a network: the network text.
 ghost use Rattle.std.specs.Prelude.{◌≡◌, Err, IfErr, IfOk, List, Ok, OnOk, [], false, ℕ};
 ghost use Rattle.std.specs.Io.KnownBytes.{IsAtEnd};
 ghost use Rattle.wrp_config.specs.Accepted.{IsAccepted};
@@ -18,17 +18,17 @@ use wrp_io::{Sink, Source};
 use wrp_network_text::ReadNetwork;
 use wrp_records::{Reader, Status, TOO_LARGE_LINE, answer, refuse_network};
 
-/// The network that stands in front of the records, and its text.
+/// The network that comes before the records, and its text.
 #[derive(Drop)]
 pub struct Front {
-    /// The network, on the heap, since it is large.
+    /// The network, on the heap, because it is large.
     pub net: Box<Network>,
     /// Its text.
     pub text: Vec<u8>,
 }
 
 /// A reader that has taken nothing, on the heap: no frame of a caller has room for its piece.
-/// `AllocError` where the heap has no room for it.
+/// `AllocError` if the heap has no room for it.
 #[inline(never)]
 pub fn new_reader(alloc: Global) -> Result<Box<Reader>, AllocError>
     ensures { IfOk result (λ reader. (reader.value.rest ≡ []) × (reader.value.ended ≡ false)) }
@@ -37,7 +37,7 @@ pub fn new_reader(alloc: Global) -> Result<Box<Reader>, AllocError>
 }
 
 /// Reads a network, and keeps it on the heap. No frame of a caller has room for one. The error is
-/// the first fault that the text has as a network file, or want of memory.
+/// the first fault that the text has as a network file, or that memory ran out.
 #[inline(never)]
 pub fn read_network(alloc: Global, text: &[u8]) -> Result<Box<Network>, ConfFault>
     ensures reads { IfOk result (λ net. IsReadingOf text.now (Ok net.value)) }
@@ -53,8 +53,8 @@ pub fn read_network(alloc: Global, text: &[u8]) -> Result<Box<Network>, ConfFaul
     }
 }
 
-/// Takes the network text from a source, and reads it. Where it is refused or cannot be taken, the run ends with
-/// this status.
+/// Takes the network text from a source, and reads it. If the text is refused or cannot be taken, the run ends
+/// with this status.
 pub fn take_front<S: Source, K: Sink>(
     alloc: Global,
     words: &[&str],

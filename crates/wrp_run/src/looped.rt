@@ -58,7 +58,7 @@ fn run_on<S: Source, K: Sink, N: Link>(
                 requires sound { IsSound asked_law }
                 requires lo { least_of asked_law ≤ℤ x }
                 requires hi { x ≤ℤ most_of asked_law }
-                // The floor of the fraction, or the table's value where the link has a table.
+                // The floor of the fraction, or the table's value if the link has a table.
                 ensures down { result ≡ down_of asked_law.entry x }
                 ensures near { IsNear (kind_of asked_law.entry) (error_of asked_law.entry) x result }
             { asked_law.down(x) },
@@ -111,7 +111,7 @@ fn run_behind<S: Source, K: Sink, N: Link>(
     run_on(alloc, &*front.net, own, seed, reader, source, sink, link)
 }
 
-// Runs the network that stands in front of the records over a link, with a reader that has taken nothing.
+// Runs the network that comes before the records over a link, with a reader that has taken nothing.
 fn run_read<S: Source, K: Sink, N: Link>(
     alloc: Global,
     words: &[&str],
@@ -140,7 +140,7 @@ fn run_read<S: Source, K: Sink, N: Link>(
     }
 }
 
-/// Runs the network that stands in front of the records over a link, from a seed.
+/// Runs the network that comes before the records over a link, from a seed.
 #[inline(never)]
 pub fn run_loop<S: Source, K: Sink, N: Link>(
     alloc: Global,

@@ -1,4 +1,4 @@
-//! The commands on a network: behind its text the records are handed to a node, or to all of its nodes in a
+//! The commands on a network: after its text the records are given to a node, or to all of its nodes in a
 //! world.
 ghost use Rattle.std.specs.Prelude.{◌≡◌, ◌≤ℤ◌, ◌<◌, ◌∷◌, [], ℕ, None, Ok, Option, List, false, true};
 ghost use Rattle.std.specs.Io.KnownBytes.{IsAtEnd};
@@ -96,7 +96,7 @@ fn work_on<S: Source, K: Sink>(
                 requires sound { IsSound link }
                 requires lo { least_of link ≤ℤ x }
                 requires hi { x ≤ℤ most_of link }
-                // The floor of the fraction, or the table's value where the link has a table.
+                // The floor of the fraction, or the table's value if the link has a table.
                 ensures down { result ≡ down_of link.entry x }
                 ensures near { IsNear (kind_of link.entry) (error_of link.entry) x result }
             { link.down(x) },
@@ -144,7 +144,7 @@ fn work_behind<S: Source, K: Sink>(
     work_on(alloc, &*front.net, own, work, reader, source, sink)
 }
 
-// Replays a node of the network that stands in front of the records.
+// Replays a node of the network that comes before the records.
 #[inline(never)]
 fn replay_behind<S: Source, K: Sink>(
     alloc: Global,
@@ -174,7 +174,7 @@ fn replay_behind<S: Source, K: Sink>(
     replay(alloc, Replayed { net, node }, reader, source, sink)
 }
 
-// Answers that the network in front of the records has no node of this name.
+// Answers that the network before the records has no node with this name.
 fn lacks_node<S: Source, K: Sink>(
     words: &[&str],
     name: &str,
@@ -200,7 +200,7 @@ fn lacks_node<S: Source, K: Sink>(
     answer(sink, Status::Usage, USAGE_LINE.as_bytes())
 }
 
-// Does what is asked of the network that stands in front of the records.
+// Does what is asked of the network that comes before the records.
 fn run_behind<S: Source, K: Sink>(
     alloc: Global,
     words: &[&str],
@@ -255,7 +255,7 @@ fn run_behind<S: Source, K: Sink>(
     }
 }
 
-// Does what is asked of the network that stands in front of the records, with a reader that has taken nothing.
+// Does what is asked of the network that comes before the records, with a reader that has taken nothing.
 fn run_read<S: Source, K: Sink>(
     alloc: Global,
     words: &[&str],
@@ -277,7 +277,7 @@ fn run_read<S: Source, K: Sink>(
     }
 }
 
-/// Does what is asked of the network that stands in front of the records.
+/// Does what is asked of the network that comes before the records.
 #[inline(never)]
 pub fn run_network<S: Source, K: Sink>(
     alloc: Global,

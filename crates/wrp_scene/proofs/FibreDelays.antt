@@ -9,7 +9,7 @@ use Rattle.wrp_base.specs.Ranges.{IsFromTo}
 use Rattle.wrp_scene.specs.Scenario.{SceneAt, IsSceneOf, IsSum, delta_ms, delta_sm, fibre_room, sum_of}
 use Rattle.wrp_scene.proofs.FibreSplit.{split}
 
--- of both ways so much, each way takes at most all of it
+-- each way takes at most the whole delay of both ways
 pub down_range : (kappa : ℤ) (sum : ℕ) → unsigned_abs kappa ≤ 2 ^ 38 → IsFromTo 0 sum (delta_ms kappa sum)
 down_range kappa sum small =
     let parts = split kappa sum sum 1 small (omega arith) (omega arith) in
@@ -20,7 +20,8 @@ up_range kappa sum small =
     let parts = split kappa sum sum 1 small (omega arith) (omega arith) in
     (parts.sm_least, parts.sm_most)
 
--- an element of a list all of whose elements are so, or what stands for none
+-- an element of a list in which this holds for all elements, or the value for a place without an
+-- element
 all_at : {X : Type 0} (P : X → Type 0) (xs : List X) (n : ℕ) (x : X) → AllByRecursion P xs → P x → P (unwrap_or (slice_get xs n) x)
 all_at P [] n x all is = is
 all_at P (y ∷ xs) zero x all is = all.0

@@ -43,7 +43,7 @@ length_more (y ∷ xs) x = omega (arith, length_more xs x)
 
 -- Scenarios
 
--- one that no line says anything of
+-- a scenario of which no line says anything
 pub new_is_scene : (cfg : NetCfg) → IsSceneOf cfg (new_scene cfg)
 new_is_scene cfg = record {
   duration = (omega (arith, ints), omega (arith, ints));
@@ -60,7 +60,7 @@ new_is_scene cfg = record {
   fault = tt;
 }
 
--- one that runs for so long
+-- a scenario that runs for so long
 pub with_duration : (cfg : NetCfg) (scene : SceneAt) (ms : ℕ) → IsAmong 0 10_000_000 ms → IsSceneOf cfg scene
     → IsSceneOf cfg (record scene { duration = tau_of_ms ms })
 with_duration cfg scene ms among is = record {
@@ -78,7 +78,7 @@ with_duration cfg scene ms among is = record {
   fault = is.fault;
 }
 
--- one with another fibre
+-- a scenario with another fibre
 pub with_sum : (cfg : NetCfg) (scene : SceneAt) (l sum : ℕ) → IsSum cfg sum → IsSceneOf cfg scene
     → IsSceneOf cfg (record scene { sums = slice_set scene.sums l sum })
 with_sum cfg scene l sum small is = record {
@@ -100,7 +100,7 @@ with_sum cfg scene l sum small is = record {
 another : (cfg : NetCfg) (m n : ℕ) → IsGrandmaster cfg m → is_none (link_above cfg n) ≡ false → m ≢ n
 another cfg m n gm above e = cc (sym (ap (λ k. is_none (link_above cfg k)) e ∙ above) ∙ ap is_none gm.1)
 
--- one with another offset of a node below the grandmaster
+-- a scenario with another offset of a node below the grandmaster
 pub with_offset : (cfg : NetCfg) (scene : SceneAt) (n : ℕ) (off : ℤ) → is_none (link_above cfg n) ≡ false → IsOffset off
     → IsSceneOf cfg scene → IsSceneOf cfg (record scene { offsets = slice_set scene.offsets n off })
 with_offset cfg scene n off above small is = record {
@@ -118,7 +118,7 @@ with_offset cfg scene n off above small is = record {
   fault = is.fault;
 }
 
--- one with another clock
+-- a scenario with another clock
 pub with_free : (cfg : NetCfg) (scene : SceneAt) (n : ℕ) (rate : ℤ) → IsFree rate → IsSceneOf cfg scene
     → IsSceneOf cfg (record scene { frees = slice_set scene.frees n rate })
 with_free cfg scene n rate small is = record {
@@ -136,7 +136,7 @@ with_free cfg scene n rate small is = record {
   fault = is.fault;
 }
 
--- one with other losses
+-- a scenario with other losses
 pub with_loss : (cfg : NetCfg) (scene : SceneAt) (permille : ℕ) → IsAmong 0 1_000 permille → IsSceneOf cfg scene
     → IsSceneOf cfg (record scene { loss = permille })
 with_loss cfg scene permille among is = record {
@@ -154,7 +154,7 @@ with_loss cfg scene permille among is = record {
   fault = is.fault;
 }
 
--- one with other repeats
+-- a scenario with other repeats
 pub with_repeat : (cfg : NetCfg) (scene : SceneAt) (permille : ℕ) → IsAmong 0 1_000 permille → IsSceneOf cfg scene
     → IsSceneOf cfg (record scene { repeat = permille })
 with_repeat cfg scene permille among is = record {
@@ -172,7 +172,7 @@ with_repeat cfg scene permille among is = record {
   fault = is.fault;
 }
 
--- one with one more fault
+-- a scenario with one more fault
 pub with_fault : (cfg : NetCfg) (scene : SceneAt) (fault : Fault) → length scene.faults < 64 → IsFault cfg fault
     → IsSceneOf cfg scene → IsSceneOf cfg (record scene { faults = scene.faults ++ fault ∷ [] })
 with_fault cfg scene fault room fits is = record {

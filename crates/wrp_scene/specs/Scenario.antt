@@ -1,5 +1,5 @@
--- Scenarios: for how long a network runs, with which fibres, clocks, losses and faults (this project's profile). Nodes and
--- links are told by their places from 0 in file order; times, delays and offsets are in tau.
+-- Scenarios: for how long a network runs, with which fibres, clocks, losses and faults (this project's profile).
+-- Nodes and links are given by their places from 0 in file order; times, delays and offsets are in tau.
 use Rattle.std.specs.Prelude.{ℕ, ℤ, pos, ◌*◌, ◌+◌, ◌-◌, ◌≤◌, ◌<◌, ◌≡◌, ◌*ℤ◌, ◌-ℤ◌, unsigned_abs, List, [], map, length, slice_get, unwrap_or}
 use Rattle.std.specs.List.{AllByRecursion}
 use Rattle.std.specs.Option.{option_map_or}
@@ -13,9 +13,9 @@ use Rattle.wrp_scene.specs.declared.scene.fault.Fault.{Fault}
 use Rattle.wrp_scene.specs.declared.scene.fault.FaultKind.{FaultKind}
 use Rattle.wrp_scene.specs.declared.scene.fault.FaultKind.TheVariants.{Down, Up, Cut, Join}
 
--- a scenario of a network: for each link the delay of both ways of its fibre, for each node the offset that its clock has as
--- the node comes up and the rate in 10^-12 of its clock at rest, of 1000 arrivals how many are lost and how many come twice,
--- and the faults in the order of their lines
+-- a scenario of a network: for each link the delay of both ways of its fibre; for each node the offset that its
+-- clock has when the node comes up, and the rate in 10^-12 of its clock at rest; how many of 1000 arrivals are
+-- lost, and how many come twice; and the faults in the order of their lines
 pub record SceneAt : Type 0 where
   pub duration : ℤ
   pub sums : List ℕ
@@ -33,7 +33,8 @@ tau_of_ms ms = pos (65_536_000_000_000 * ms)
 abbrev pub off_of_ns : ℤ → ℤ
 off_of_ns ns = pos 65_536_000 *ℤ ns
 
--- the scenario that no line says anything of: 10,000 ms, fibres without delay, clocks without offset or rate of their own
+-- the scenario of which no line says anything: 10,000 ms, fibres without delay, clocks without offset or rate of
+-- their own
 abbrev pub new_scene : NetCfg → SceneAt
 new_scene cfg = record {
   duration = tau_of_ms 10_000;
@@ -51,7 +52,7 @@ new_scene cfg = record {
 abbrev pub sum_of : SceneAt → ℕ → ℕ
 sum_of scene l = unwrap_or (slice_get scene.sums l) 0
 
--- the offset that a node's clock has as the node comes up
+-- the offset that a node's clock has when the node comes up
 abbrev pub offset_of : SceneAt → ℕ → ℤ
 offset_of scene n = unwrap_or (slice_get scene.offsets n) (pos 0)
 
@@ -59,7 +60,8 @@ offset_of scene n = unwrap_or (slice_get scene.offsets n) (pos 0)
 abbrev pub free_of : SceneAt → ℕ → ℤ
 free_of scene n = unwrap_or (slice_get scene.frees n) (pos 0)
 
--- the delay down of a fibre of this asymmetry, of both ways so much: it takes (2^39 + kappa) / 2^40 of it, rounded down
+-- the delay down of a fibre with this asymmetry and this delay of both ways: (2^39 + kappa) / 2^40 of the delay of
+-- both ways, rounded down
 abbrev pub delta_ms : ℤ → ℕ → ℤ
 delta_ms kappa sum = floor_at kappa (pos sum)
 
@@ -80,11 +82,11 @@ sm_of cfg scene l = delta_sm (kappa_of cfg l) (sum_of scene l)
 
 -- Ranges
 
--- what a one-way delay has left for the fibre, whichever ports are at its ends: the sides of the ninth inequality
+-- what a one-way delay leaves for the fibre, whichever ports are at its ends: the sides of the ninth inequality
 abbrev pub fibre_room : NetCfg → ℕ
 fibre_room cfg = reach cfg - (cfg.tx_max + cfg.rx_max + 2 * cfg.e_db)
 
--- three of it are at most four times that room
+-- three times this sum is at most four times that room
 abbrev pub IsSum : NetCfg → ℕ → Type 0
 IsSum cfg sum = 3 * sum ≤ 4 * fibre_room cfg
 
@@ -103,13 +105,13 @@ IsFaultKind cfg (Up node) = node < node_count cfg
 IsFaultKind cfg (Cut link) = link < link_count cfg
 IsFaultKind cfg (Join link) = link < link_count cfg
 
--- a fault that a line can say: 0 to 10^7 ms behind the start
+-- a fault that a line can say: 0 to 10^7 ms after the start
 pub record IsFault (cfg : NetCfg) (fault : Fault) : Type 0 where
   pub at : IsFromTo 0 655_360_000_000_000_000_000 fault.at
   pub kind : IsFaultKind cfg fault.kind
 
--- a scenario that lines can say of a network: one number for each link and two for each node, all in their ranges, and none
--- but 0 for the offset of the grandmaster
+-- a scenario that lines can say for a network: one number for each link and two for each node, all in their ranges,
+-- and 0 as the offset of the grandmaster
 pub record IsSceneOf (cfg : NetCfg) (scene : SceneAt) : Type 0 where
   pub duration : IsFromTo 0 655_360_000_000_000_000_000 scene.duration
   pub links : length scene.sums ≡ link_count cfg

@@ -1,6 +1,6 @@
--- The lines of a scenario: what each says, and which fault comes first in one that says nothing (this project's profile).
--- The kind is tried first, then the number of fields, then the fields from left to right. Of the lines of one kind that
--- speak of the same the last counts, but each fault is one more.
+-- The lines of a scenario: what each says, and which fault comes first in a line that says nothing (this project's
+-- profile). The kind is tried first, then the number of fields, then the fields from left to right. If several
+-- lines of one kind are about the same thing, the last one counts, but each fault line adds a fault.
 use Rattle.std.specs.Prelude.{ℕ, ℤ, pos, negsuc, ◌*◌, ◌/◌, ◌==◌, nat_lt, is_none, if◌then◌else◌, Option, None, Some, Result, Ok, Err, List, [], ◌∷◌, ◌++◌, length, slice_set, codes}
 use Rattle.wrp_network.specs.declared.configuration.NetCfg.{NetCfg}
 use Rattle.wrp_base.specs.declared.fault.TraceFault.{TraceFault}
@@ -26,7 +26,8 @@ use Rattle.wrp_scene.specs.ScenarioKinds.{field_count, kind_of}
 abbrev pub time_at : ℕ → List (List ℕ) → Result ℕ TraceFault
 time_at place fields = number_at 0 10_000_000 place fields
 
--- the delay of both ways of a fibre, in tau: three of it at most four times the room for a fibre
+-- the delay of both ways of a fibre, in tau: three times it is at most four times the room for a
+-- fibre
 abbrev pub sum_at : NetCfg → ℕ → List (List ℕ) → Result ℕ TraceFault
 sum_at cfg place fields = number_at 0 (4 * fibre_room cfg / 3) place fields
 
@@ -116,7 +117,7 @@ repeat_line scene fields = do
   permille ← permille_at 2 fields
   Ok (record scene { repeat = permille })
 
--- `fault,MS,KIND,NAME`: a fault, of whatever scenario
+-- `fault,MS,KIND,NAME`: a fault, for any scenario
 abbrev pub fault_at : NetCfg → List (List ℕ) → Result Fault TraceFault
 fault_at cfg fields = do
   ms ← time_at 2 fields
@@ -133,7 +134,7 @@ abbrev pub fault_line : NetCfg → SceneAt → List (List ℕ) → Result SceneA
 fault_line cfg scene fields =
     if nat_lt (length scene.faults) 64 then with_fault cfg scene fields else Err Fields
 
--- the scenario behind a line of a kind, by its fields
+-- the scenario after a line of a kind, by its fields
 abbrev pub line_of_kind : NetCfg → SceneAt → SceneKind → List (List ℕ) → Result SceneAt TraceFault
 line_of_kind cfg scene kinds.Length fields = length_line scene fields
 line_of_kind cfg scene kinds.Fibre fields = fibre_line cfg scene fields
@@ -143,21 +144,21 @@ line_of_kind cfg scene kinds.Loss fields = loss_line scene fields
 line_of_kind cfg scene kinds.Repeat fields = repeat_line scene fields
 line_of_kind cfg scene kinds.Fault fields = fault_line cfg scene fields
 
--- the same, where the kind is known and has so many fields
+-- the same, if the kind is known and has so many fields
 abbrev pub counted_of : NetCfg → SceneAt → List (List ℕ) → Option SceneKind → Result SceneAt TraceFault
 counted_of cfg scene fields None = Err Kind
 counted_of cfg scene fields (Some kind) =
     if length fields == field_count kind then line_of_kind cfg scene kind fields else Err Fields
 
--- the scenario behind a line of these fields, or the first fault that they have
+-- the scenario after a line of these fields, or the first fault that they have
 abbrev pub scene_of : NetCfg → SceneAt → List (List ℕ) → Result SceneAt TraceFault
 scene_of cfg scene fields = counted_of cfg scene fields (kind_of (field_of 1 fields))
 
--- the scenario behind a line, or the first fault that the line has
+-- the scenario after a line, or the first fault that the line has
 abbrev pub scene_read : NetCfg → SceneAt → List ℕ → Result SceneAt TraceFault
 scene_read cfg scene line = if is_plain line then scene_of cfg scene (parts_of line) else Err Fields
 
--- what is read where a call that may end in a fault leaves this scenario
+-- what is read, if a call that may end in a fault leaves this scenario
 abbrev pub outcome : Result (Unit {0}) TraceFault → SceneAt → Result SceneAt TraceFault
 outcome (Ok done) scene = Ok scene
 outcome (Err fault) scene = Err fault

@@ -30,7 +30,7 @@ use wrp_network::{LinkCfg, NetCfg, NodeCfg};
 // The place of the first field.
 const KIND: u32 = 1;
 
-// For how long a network runs where no line says it, in ms.
+// For how long a network runs if no line says it, in ms.
 const USUAL_LENGTH: u64 = 10_000;
 
 /// The greatest number of an event in a run by a scenario. Events are counted from 1.
@@ -39,8 +39,8 @@ pub const LAST_EVENT: u32 = u32::MAX - 1;
 // The most faults of a scenario.
 const MOST_FAULTS: usize = 64;
 
-/// A scenario of a network: what its lines say, and for each kind of line that does not come, what is
-/// usual.
+/// A scenario of a network: what its lines say, and the usual value for each kind of line that does
+/// not come.
 #[derive(Debug, Drop)]
 pub struct Scene {
     // In tau.
@@ -107,8 +107,9 @@ fn no_frees(nodes: &[NodeCfg]) -> ArrayVec<i64, 64>
 }
 
 impl Scene {
-    /// The scenario of a network that no line says anything of: it runs for 10,000 ms, its fibres have
-    /// no delay, its clocks neither offset nor rate of their own, and there are no losses or faults.
+    /// The scenario of a network of which no line says anything: it runs for 10,000 ms, its fibres
+    /// have no delay, its clocks have neither offset nor rate of their own, and there are no losses or
+    /// faults.
     pub fn new(net: &Network) -> Scene
         ensures value { result ≡ new_scene net.now.cfg }
         ensures scene { IsSceneOf net.now.cfg result }
@@ -116,7 +117,7 @@ impl Scene {
         Scene::usual(&net.cfg)
     }
 
-    // The same, of the network's numbers.
+    // The same, by the network's numbers.
     fn usual(cfg: &NetCfg) -> Scene
         ensures { result ≡ new_scene cfg.now }
     {
@@ -135,16 +136,16 @@ impl Scene {
         }
     }
 
-    /// Takes what a line says, in place of what an earlier line of its kind says of the same; but each
-    /// fault is one more. The lines are `length,MS`, `fibre,LINK,SUM` with SUM in tau, `offset,NODE,NS`,
-    /// `free,NODE,RATE` with RATE in `10^-12`, `loss,PERMILLE`, `repeat,PERMILLE` and
-    /// `fault,MS,KIND,NAME`, where KIND is `down`, `up`, `cut` or `join`. `net` is the network that this
-    /// scenario is of.
+    /// Takes what a line says, in place of what an earlier line of its kind says of the same thing; but
+    /// each fault line adds a fault. The lines are `length,MS`, `fibre,LINK,SUM` with SUM in tau,
+    /// `offset,NODE,NS`, `free,NODE,RATE` with RATE in `10^-12`, `loss,PERMILLE`, `repeat,PERMILLE` and
+    /// `fault,MS,KIND,NAME`, where KIND is `down`, `up`, `cut` or `join`. `net` is the network of this
+    /// scenario.
     ///
-    /// Refused are, the first that applies: a line that is not plain (`Fields`), another first field
-    /// (`Kind`), another number of fields and a 65th fault (`Fields`), and then from left to right a
-    /// field that is no number of its range (`Number`) or not such a name (`Name`). A line that is
-    /// refused changes nothing, nor does one for which there is no memory.
+    /// These are refused, and the first that applies is the one reported: a line that is not plain
+    /// (`Fields`), another first field (`Kind`), another number of fields or a 65th fault (`Fields`),
+    /// and then, from left to right, a field that is not a number of its range (`Number`) or not such a
+    /// name (`Name`). A line that is refused changes nothing, nor does a line for which memory runs out.
     pub fn read(&mut self, alloc: Global, line: &[u8], net: &Network) -> Result<(), TraceFault>
         requires ranges { HasRanges net.now.cfg }
         requires scene { IsSceneOf net.now.cfg self.old }
@@ -162,7 +163,7 @@ impl Scene {
         }
     }
 
-    /// The same of the fields of a line. A line that is refused changes nothing.
+    /// The same for the fields of a line. A line that is refused changes nothing.
     pub fn read_fields(&mut self, row: &ByteRecord, net: &Network) -> Result<(), TraceFault>
         requires ranges { HasRanges net.now.cfg }
         requires scene { IsSceneOf net.now.cfg self.old }
@@ -177,7 +178,7 @@ impl Scene {
         }
     }
 
-    // The same of the fields of a line of a kind.
+    // The same for the fields of a line of a kind.
     fn read_kind(
         &mut self,
         kind: SceneKind,
@@ -230,7 +231,7 @@ impl Scene {
         Ok(())
     }
 
-    // A node's clock has this offset as the node comes up.
+    // A node's clock has this offset when the node comes up.
     fn put_offset(&mut self, node: u8, off: Tau)
         requires { node < length self.old.offsets }
         ensures { self.new ≡ record self.old { offsets = slice_set self.old.offsets node off } }

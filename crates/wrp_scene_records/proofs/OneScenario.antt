@@ -19,7 +19,7 @@ scenes_one cfg scene (line ∷ lines) a b p q =
     let same : p.0 ≡ q.0 = ok_scene p.0 q.0 (scene_read cfg scene line) p.1 q.1 in
     scenes_one cfg p.0 lines a b p.2 (subst (λ (n : SceneAt). Changes cfg n lines b) (sym same) q.2)
 
--- what the lines in front say, and what the rest changes
+-- what the first lines say, and what the rest changes
 pub parted : (cfg : NetCfg) (scene : SceneAt) (front back : List (List ℕ)) (last : SceneAt) → Changes cfg scene (front ++ back) last → (mid : SceneAt) × Changes cfg scene front mid × Changes cfg mid back last
 parted cfg scene [] back last p = (scene, refl, p)
 parted cfg scene (line ∷ front) back last p =

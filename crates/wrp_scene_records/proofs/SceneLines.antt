@@ -1,4 +1,4 @@
--- What a line says of a scenario, and what a refusal says of it.
+-- What a line says about a scenario, and what a refusal says about the line.
 use Rattle.std.proofs.Common.{◌≡◌, ◌∙◌, refl, ap, sym, subst, ℕ, ◌+◌, Ok, Err, List, [], ◌∷◌, ◌++◌, length}
 use Rattle.wrp_base.specs.declared.fault.TraceFault.{TraceFault}
 use Rattle.wrp_config.specs.declared.network.Network.{Network}
@@ -14,14 +14,14 @@ use Rattle.wrp_scene_records.specs.ScenarioStands.{SaysScenario}
 use Rattle.wrp_scene_records.specs.Scenarios.{AcceptsScene, RefusesScene, SaysScene}
 use Rattle.wrp_scene_records.proofs.OneScenario.{joined}
 
--- the scenario with a line more
+-- the scenario with one more line
 pub says_more : (held now : ScenarioLines) (lines : List (List ℕ)) (line : List ℕ) → Ok now.scene ≡ scene_read held.net.now.cfg held.scene line → now.net.now ≡ held.net.now → SaysScenario held lines → SaysScenario now (lines ++ line ∷ [])
 says_more held now lines line reads same said =
     let cfg = held.net.now.cfg in
     let all : SaysScene cfg (lines ++ line ∷ []) now.scene = joined cfg (new_scene cfg) lines (line ∷ []) held.scene now.scene said (now.scene, sym reads, refl) in
     subst (λ (k : Network). SaysScene k.cfg (lines ++ line ∷ []) now.scene) (sym same) all
 
--- and nothing is written of it
+-- and nothing is written for it
 pub accepts_more : (net : Network) (held now : ScenarioLines) (lines : List (List ℕ)) (line before text : List ℕ) → held.net.now ≡ net → now.net.now ≡ net → SaysScenario now (lines ++ line ∷ []) → AcceptsScene net.cfg lines before → text ≡ []
     → AcceptsScene net.cfg (lines ++ line ∷ []) (before ++ text)
 accepts_more net held now lines line before text was is said accepted none =

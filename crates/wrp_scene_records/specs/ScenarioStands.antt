@@ -10,7 +10,7 @@ use Rattle.wrp_records.specs.Stream.{large_line}
 use Rattle.wrp_scene_records.specs.declared.scenario.ScenarioLines.{ScenarioLines}
 use Rattle.wrp_scene_records.specs.Scenarios.{SaysScene}
 
--- it can take a line: its scenario is one of its network
+-- it can take a line: its scenario belongs to its network
 pub record CanRead (held : ScenarioLines) : Type 0 where
   pub ranges : HasRanges held.net.now.cfg
   pub scene : IsSceneOf held.net.now.cfg held.scene
@@ -19,7 +19,8 @@ pub record CanRead (held : ScenarioLines) : Type 0 where
 abbrev pub SaysScenario : ScenarioLines → List (List ℕ) → Type 0
 SaysScenario held lines = SaysScene held.net.now.cfg lines held.scene
 
--- the line that names an event whose number is too great is written behind what waits, or a part of that; or there is no memory for it
+-- the line that names an event whose number is too great is written after what waits, or a part of that is written;
+-- or memory runs out
 abbrev pub ClosesLarge : Status → Option (List ℕ) → Option (List ℕ) → List ℕ → Type 0
 ClosesLarge status before now waiting =
     ((status ≡ OutOfMemory) × (now ≡ before))

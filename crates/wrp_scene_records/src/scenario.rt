@@ -15,7 +15,7 @@ use wrp_config::Network;
 use wrp_records::{Closing, Machine, Taken, refuse};
 use wrp_scene::Scene;
 
-/// The scenario of a network, as far as its lines were read.
+/// The scenario of a network, as far as its lines have been read.
 #[derive(Drop)]
 pub struct ScenarioLines<'a> {
     net: &'a Network,

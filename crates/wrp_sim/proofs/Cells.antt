@@ -1,4 +1,4 @@
--- Signed numbers as the code has them, and sizes of what the rules compute.
+-- Signed numbers as the code has them, and the sizes of what the rules compute.
 use Rattle.std.proofs.Common.{◌≡◌, ◌∙◌, refl, ap, ap₂, sym, ℕ, zero, suc, ◌*◌, ◌≤◌, ◌^◌, ℤ, pos, ◌≤ℤ◌, unsigned_abs, Bool, true, false, if◌then◌else◌, List, [], ◌∷◌, Option, None, Some, option_map, option_and_then, slice_get, unwrap_or, arith}
 use Rattle.std.proofs.lemmas.Int.{ints}
 use Rattle.std.proofs.lemmas.Option.{none-some, same_Some}
@@ -16,7 +16,7 @@ use Rattle.wrp_sim.specs.Numbers.{is_within, raw_at}
 use Rattle.wrp_sim.specs.Rules.{first_entry, raw_by, raw_to}
 use Rattle.wrp_scene.specs.Scenario.{IsFree}
 
--- readings that a stamp can tell
+-- readings that a stamp can show
 
 pub within_least : (clock : Clock) (at : ℤ) → is_within clock at ≡ true → pos 0 ≤ℤ at
 within_least Mhz125 at e = grind (arith, ints)

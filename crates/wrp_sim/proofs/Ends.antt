@@ -76,13 +76,13 @@ end_found s net k r end e = found s net k r end e (place_of s end.node end.port)
 
 -- The raw stamp of a frame
 
--- what is due first is on a fibre
+-- the frame that is due first is on a fibre
 pub due_on : {F : Type 0} (post : F → ℤ → ℤ → Type 0) (world : WorldOf F) (due : Option (ℕ × ℤ)) →
     ((s : Setting) (w : WorldAt) → StandsFor post s w world → IsNextArrival w due) → IsDue post world due
 due_on post world None h = tt
 due_on post world (Some next) h = λ s w k. (h s w k).2
 
--- the raw stamp of a frame is that at the end that it comes to
+-- the raw stamp of a frame is the one at the end that it comes to
 to_end : (s : Setting) (w : WorldAt) (o : Option FrameAt) (to : Option Place) → to ≡ option_map end_to o →
     option_and_then (λ (p : Place). raw_to s w p.link p.role) to ≡ option_and_then (λ f. raw_to s w f.link (other_of f.by)) o
 to_end s w None to e = ap (option_and_then (λ (p : Place). raw_to s w p.link p.role)) e

@@ -8,7 +8,7 @@ use Rattle.wrp_scene.specs.declared.scene.fault.Fault.{Fault}
 use Rattle.wrp_sim.specs.Rules.{applies, faults_left, has_come, next_fault}
 use Rattle.wrp_sim.proofs.SimLists.{drop_at, drop_removed, take_more, take_removed}
 
--- those before place i have not come, and those from it on are still to be tried
+-- the faults before place i have not come, and those from place i on are still to be tried
 abbrev pub Left : Setting → WorldAt → (all faults : List Fault) → ℕ → Type 0
 Left s w all faults i =
     (next_fault s w all ≡ next_fault s w (drop i faults))
@@ -58,7 +58,7 @@ left_taken s w all faults i f e h k left =
     let next : i + 1 ≡ suc i = omega arith in
     left.1 ∙ ap (λ xs. take i faults ++ xs) (left_at s w faults i f true true e h k) ∙ ap (λ n. take i faults ++ drop n faults) next
 
--- What holds of each
+-- What holds for each
 
 pub all_removed : {A : Type 0} (P : A → Type 0) (xs : List A) (i : ℕ) → AllByRecursion P xs → AllByRecursion P (remove xs i)
 all_removed P [] zero h = tt

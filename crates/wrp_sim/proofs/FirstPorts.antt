@@ -1,4 +1,4 @@
--- The port that stands first is found over the ends of links as over all ports.
+-- The search over the ends of links finds the same first port as the search over all ports.
 use Rattle.std.proofs.Common.{◌≡◌, ◌⊎◌, inl, inr, ◌∙◌, refl, ap, ap₂, sym, subst, ℕ, zero, suc, ◌+◌, ◌*◌, ◌<◌, ◌≤◌, ◌&&◌, nat_lt, Bool, true, false, cond, if◌then◌else◌, List, map, find, fold, flat_map, length, Option, None, Some, option_map, option_and_then, arith}
 use Rattle.std.specs.Option.{option_or}
 use Rattle.std.proofs.lemmas.Bool.Decides.{eqb_tells, nat_tests}
@@ -112,7 +112,7 @@ abbrev FirstOf : Setting → WorldAt → (ℕ → Role → Type 0) → Option De
 FirstOf s w of None = NoneOf s w of
 FirstOf s w of (Some d) = FirstIs s w of d
 
--- one end more
+-- one more end
 abbrev Or : (ℕ → Role → Type 0) → ℕ → Role → ℕ → Role → Type 0
 Or of k r = λ j q. of j q ⊎ ((j ≡ k) × (q ≡ r))
 
@@ -128,7 +128,7 @@ widened s w of less (Some d) f h = record {
   first = λ k r other m e g. h.first k r other (f k r m) e g;
 }
 
--- it is the very end
+-- it is this same end
 the_end : (s : Setting) (k j : ℕ) (r q : Role) (end other : End) → j ≡ k → q ≡ r → end_at s k r ≡ Some end → end_at s j q ≡ Some other → other ≡ end
 the_end s k j r q end other a b e f = same_Some other end (sym f ∙ ap₂ (end_at s) a b ∙ e)
 
@@ -154,7 +154,7 @@ not_there s w of k r (Some d) h f = record {
       ];
 }
 
--- its port stands no later than itself
+-- its port comes no later than itself
 no_later : (w : WorldAt) (d : Departure) (end other : End) → d ≡ departure_from w (end.node, end.port) → other ≡ end →
     standing d ≤ standing (departure_from w (other.node, other.port))
 no_later w d end other e f =
@@ -162,7 +162,7 @@ no_later w d end other e f =
     ap standing e ∙ sym (ap (λ (x : End). standing (departure_from w (x.node, x.port))) f) in
     omega (arith, same)
 
--- one departs there
+-- a frame departs there
 alone : (s : Setting) (w : WorldAt) (of : ℕ → Role → Type 0) (k : ℕ) (r : Role) (d : Departure) (end : End) → end_at s k r ≡ Some end →
     d ≡ departure_from w (end.node, end.port) → departs_now s w (end.node, end.port) ≡ true →
     ((j : ℕ) (q : Role) (other : End) → of j q → end_at s j q ≡ Some other → departs_now s w (other.node, other.port) ≡ true →
@@ -245,7 +245,7 @@ one_end s net w of k r o h = by_end s net w of k r o (end_at s k r) refl h
 
 -- All ends
 
--- those of the links before one
+-- the ends of the links before one
 abbrev Before : ℕ → ℕ → Role → Type 0
 Before k = λ j r. j < k
 
@@ -328,7 +328,7 @@ is_port s net k r end e =
     let it : LinkEnd s k r end = link_end s k r end e in
     subst (IsPort s) it.end_is (port_of s r it.link (net.accepted.ranges.links k it.link it.there) (net.accepted.tree.ends k it.link it.there))
 
--- one that stands before the first has nothing to send
+-- a port that comes before the first has nothing to send
 lesser : (s : Setting) (w : WorldAt) (d : Departure) (m q : ℕ) (b : Bool) → FirstIs s w (Before (length s.cfg.links.items)) d → m * 32 + q < standing d → departs_now s w (m, q) ≡ b →
     (k : ℕ) (r : Role) → k < length s.cfg.links.items → end_at s k r ≡ Some (end_with m q) → departs_now s w (m, q) ≡ false
 lesser s w d m q false h less t k r few e = t
@@ -348,12 +348,12 @@ found s net w (Some d) h =
     (first_departs s w h.end.node h.end.port at.node at.least at.most h.departs
     (λ m q less. no_port s w m q (lesser s w d m q (departs_now s w (m, q)) h (omega (arith, less, same)) refl))))
 
--- the ends of links, tried one after another, tell the first port of all
+-- the ends of links, tried one after another, give the first port of all
 pub first_port : (s : Setting) → IsNetwork s → (w : WorldAt) →
     fold (departing_over s w) None (links_of s) ≡ option_map (departure_from w) (find (departs_now s w) (ports_of s))
 first_port s net w = found s net w (fold (departing_over s w) None (links_of s)) (all_links s net w)
 
--- where nothing was put out now, none departs
+-- if nothing was put out now, no frame departs
 
 put_out_not : (a b : Bool) → a ≡ false → (a && b) ≡ false
 put_out_not false b e = refl

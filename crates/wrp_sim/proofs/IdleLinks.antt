@@ -1,4 +1,4 @@
--- A link at whose ends no frame was put out now leaves the first port as it is.
+-- A link at whose ends no frame was put out now leaves the first port unchanged.
 use Rattle.std.proofs.Common.{◌≡◌, ◌∙◌, refl, ap, sym, ℕ, ◌||◌, Bool, true, false, if◌then◌else◌, Option, None, Some}
 use Rattle.wrp_base.specs.declared.link.Role.{Role}
 use Rattle.wrp_base.specs.declared.link.Role.TheVariants.{Master, Slave}

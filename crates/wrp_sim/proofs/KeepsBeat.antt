@@ -1,4 +1,5 @@
--- The beat bits of a sample keep the beat pattern, where the base is 32 steps before the true step and nearly 32 blanks come first.
+-- The beat bits of a sample keep the beat pattern, if the base is 32 steps before the true step and nearly 32
+-- blanks come first.
 use Rattle.std.proofs.Common.{◌≡◌, inl, inr, ◌∙◌, ap, ℕ, ◌+◌, ◌-◌, ◌%◌, ◌^◌, ◌<◌, ◌≤◌, ◌==◌, ◌&&◌, ◌||◌, ℤ, pos, negsuc, ◌+ℤ◌, ◌-ℤ◌, not, Bool, false, arith}
 use Rattle.std.proofs.lemmas.Int.{ints}
 use Rattle.std.proofs.lemmas.Bool.{cases_lt}
@@ -10,7 +11,7 @@ use Rattle.wrp_base.specs.declared.time.Clock.TheVariants.{Mhz125, Mhz62}
 use Rattle.wrp_phase.specs.Beat.{beat_bit}
 use Rattle.wrp_phase.specs.BeatPattern.{true_step, steps_past}
 
--- the base stands 32 steps before the true step
+-- the base is 32 steps before the true step
 pub steps_are : (c base : ℕ) → c < 16384 → base ≡ (c + 16352) % 16384 → steps_past c base ≡ pos 32
 steps_are c base h e = grind (arith, ints)
 
@@ -20,7 +21,7 @@ true_step_small Mhz125 (negsuc n) = omega arith
 true_step_small Mhz62 (pos n) = omega arith
 true_step_small Mhz62 (negsuc n) = omega arith
 
--- so many blanks, and then ones
+-- this many blanks, and then ones
 begin_blank : (blanks i : ℕ) → blanks ≤ 64 → i < blanks → beat_bit (2 ^ (64 - blanks) - 1) i ≡ 0
 begin_blank blanks i h k = bit_at_ones_above (64 - blanks) (63 - i) (omega arith)
 

@@ -63,7 +63,7 @@ node_within : (P : ℕ → Type 0) (number : NodeCfg → ℕ) (o : Option NodeCf
 node_within P number None h k = h
 node_within P number (Some node) h k = k node refl
 
--- a node's number is one in its range, or 0 where there is no such node
+-- a node's number is in its range, or 0 if there is no such node
 pub of_node_within : (P : ℕ → Type 0) (number : NodeCfg → ℕ) (s : Setting) (n : ℕ) → P 0 → ((node : NodeCfg) → slice_get s.cfg.nodes.items n ≡ Some node → P (number node)) → P (of_node number s n)
 of_node_within P number s n h k = node_within P number (slice_get s.cfg.nodes.items n) h k
 

@@ -1,4 +1,4 @@
--- The checks of rates hold, where clocks drift by their rates and fibres do not move.
+-- The checks of rates hold, if clocks drift by their rates and fibres do not move.
 use Rattle.std.proofs.Common.{◌≡◌, refl, sym, subst, ℕ, zero, suc, ◌+◌, ◌*◌, ◌≤◌, ℤ, pos, ◌-ℤ◌, ◌*ℤ◌, ◌≤ℤ◌, unsigned_abs, Bool, true, false, if◌then◌else◌, List, map, Option, None, Some, slice_get, length, arith}
 use Rattle.std.proofs.lemmas.Int.{ints}
 use Rattle.std.specs.Option.{option_map_or}
@@ -42,7 +42,7 @@ drift_where : (P : ℤ → Type 0) (b : Bool) (x : ℤ) → P x → P (pos 0) �
 drift_where P true x h k = h
 drift_where P false x h k = k
 
--- what holds of a node's drift, and of 0, holds of the one that is listed for it
+-- what holds for a node's drift, and for 0, holds for the drift that is listed for the node
 got_by : (P : ℤ → Type 0) (f : ℕ → ℤ) (count first i : ℕ) → P (pos 0) → P (f (first + i)) → P (option_map_or (λ x. x) (slice_get (map f (from_on count first)) i) (pos 0))
 got_by P f zero first i h k = h
 got_by P f (suc count) first zero h k = subst (λ j. P (f j)) (let e : first + zero ≡ first = omega arith in e) k

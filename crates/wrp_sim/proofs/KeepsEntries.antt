@@ -1,4 +1,4 @@
--- The numbers of a module that is listed are at most the greatest of all.
+-- The numbers of a listed module are at most the greatest of all.
 use Rattle.std.proofs.Common.{◌≡◌, sym, subst, ℕ, ◌≤◌, ◌==◌, ◌&&◌, Bool, max, fold, List, [], ◌∷◌, ◌++◌, map, flat_map, IfSome, arith}
 use Rattle.std.specs.List.{AllByRecursion, find}
 use Rattle.wrp_base.specs.declared.link.Module.{Module}
@@ -29,7 +29,7 @@ found_holds : {A : Type 0} (P : A → Type 0) (test : A → Bool) (xs : List A) 
 found_holds P test [] h = tt
 found_holds P test (x ∷ xs) h = found_case P (test x) x (find test xs) h.0 (found_holds P test xs h.1)
 
--- of all entries, module by module
+-- for all entries, module by module
 
 abbrev number_of : (Module → ℕ) → List Entry → List ℕ
 number_of number entries = map number (map (λ (e : Entry). e.delays) entries)

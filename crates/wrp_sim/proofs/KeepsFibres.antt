@@ -1,4 +1,5 @@
--- The checks of fibres hold, where they have the scenario's delays and the ends the first modules.
+-- The checks of fibres hold, if fibres have the scenario's delays and their ends have the first
+-- modules.
 use Rattle.std.proofs.Common.{◌≡◌, inl, inr, refl, ap, sym, subst, ℕ, ◌+◌, ◌-◌, ◌*◌, ◌^◌, ◌<◌, ◌≤◌, ℤ, pos, ◌+ℤ◌, ◌≤ℤ◌, unsigned_abs, true, List, [], map, Option, None, Some, IfSome, arith}
 use Rattle.std.proofs.lemmas.Int.{ints}
 use Rattle.std.specs.Option.{option_and_then, option_map_or}

@@ -246,7 +246,7 @@ arrived_hands s w at new i raw f is lit frame faults quiet = record {
 frame_lit : (s : Setting) (w : WorldAt) (i : ℕ) (f : FrameAt) → FibresLit s w → w.frame i ≡ Some f → is_on_fibre (w.frame i) ≡ true → has_carrier s w f.link ≡ true
 frame_lit s w i f lit is on = subst (λ o. FrameIsLit s w o) is (lit i) (subst (λ o. is_on_fibre o ≡ true) is on)
 
--- a raw stamp that is given of a frame: the true one, of the end that it comes to
+-- a raw stamp that is given for a frame: the true one, at the end that it comes to
 record IsTrueRaw (s : Setting) (w : WorldAt) (f : FrameAt) (raw : Raw) : Type 0 where
   end : End
   end_is : end_at s f.link (other_of f.by) ≡ Some end

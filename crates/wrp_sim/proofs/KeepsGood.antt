@@ -1,4 +1,5 @@
--- What is shown of each rule: its event is one of the network, the world accepts it, and all that holds is kept.
+-- What is shown for each rule: its event is one of the network, the world accepts it, and all that holds is
+-- kept.
 use Rattle.std.proofs.Common.{◌≡◌, ◌⊎◌, inl, inr, ◌∙◌, refl, ap, sym, subst, ℕ, zero, suc, ◌+◌, ◌≤◌, ◌<◌, ℤ, pos, ◌+ℤ◌, ◌≤ℤ◌, nat_lt, Bool, true, false, if◌then◌else◌, cond, List, [], ◌∷◌, Option, None, Some, option_map, slice_get, Result, arith}
 use Rattle.std.proofs.lemmas.Bool.Decides.{Decides-int_eq, eqb_tells, nat_tests}
 use Rattle.std.proofs.lemmas.Int.{ints}
@@ -44,7 +45,7 @@ abbrev pub IsDelivery : Event → Type 0
 IsDelivery (Deliver i) = Unit {0}
 IsDelivery _ = ⊥
 
--- an event that may come, or be left out where it hands a frame over
+-- an event that may come, or be left out if it hands a frame over
 pub record Good (scene : SceneAt) (s : Setting) (w : WorldAt) (next : Next) : Type 0 where
   pub event : IsEventOf s.cfg next.event
   pub accepted : (says : Result PtpMsg FrameFault) → Accepts s w says next.event
@@ -82,7 +83,7 @@ found_case : {A : Type 0} (P : A → Type 0) (test : A → Bool) (b : Bool) (y x
 found_case P test true y x o t p h e = let same : y ≡ x = cc in (ap test (sym same) ∙ t, subst P same p)
 found_case P test false y x o t p h e = h e
 
--- what is found passes the test, and is one of the list
+-- what is found passes the test, and is in the list
 pub found : {A : Type 0} (P : A → Type 0) (test : A → Bool) (xs : List A) (x : A) → AllByRecursion P xs → find test xs ≡ Some x → (test x ≡ true) × P x
 found P test [] x h e = absurd (none-some x e)
 found P test (y ∷ xs) x h e = found_case P test (test y) y x (find test xs) refl h.0 (found P test xs x h.1) e
@@ -123,7 +124,7 @@ differ_told a b e same = not_both (int_eq a b) ((Decides-int_eq a b).1 same) e
 
 -- Nodes and links
 
--- a node's number, where it is one of the network's
+-- a node's number, if the node is one of the network's
 pub of_node_in : (P : ℕ → Type 0) (number : NodeCfg → ℕ) (s : Setting) (n : ℕ) → n < node_count s.cfg → ((node : NodeCfg) → slice_get s.cfg.nodes.items n ≡ Some node → P (number node)) → P (of_node number s n)
 of_node_in P number s n below h =
     let it : (node : NodeCfg) × (slice_get s.cfg.nodes.items n ≡ Some node) = has_item s.cfg.nodes.items n below in
@@ -133,7 +134,7 @@ link_with : (w : WorldAt) (o : Option LinkCfg) → ends_are_up w.clock o ≡ tru
 link_with w None e = absurd (not_both true refl (sym e))
 link_with w (Some link) e = (link, refl)
 
--- a link with its carrier is one of the network's, and joined
+-- a link with its carrier belongs to the network, and is joined
 pub record IsCarried (s : Setting) (w : WorldAt) (k : ℕ) : Type 0 where
   pub link : LinkCfg
   pub there : link_of s k ≡ Some link

@@ -65,7 +65,7 @@ on_older false false more e = refl
 still_older : (f : FrameAt) (more : Bool) → is_on_fibre (Some (record f { gone = f.gone || (is_on_fibre (Some f) && more) })) ≡ true → is_on_fibre (Some f) ≡ true
 still_older f more on = on_older f.gone (is_some f.arrival) more on
 
--- a frame that arrived is on none
+-- a frame that arrived is on no fibre
 not_on : (gone : Bool) → on_by gone true ≡ true → ⊥
 not_on true e = not_both false e refl
 not_on false e = not_both false e refl
@@ -94,7 +94,7 @@ arrived_lit s w v j raw None i None stays h = tt
 arrived_lit s w v j raw None i (Some f) stays h = frame_stays s w v (Some f) stays h
 arrived_lit s w v j raw (Some g) i None stays h = tt
 
--- where a carrier stays unless the event takes it
+-- if a carrier stays unless the event takes it away
 removed_lit : (s : Setting) (w v : WorldAt) (e : Event) (o : Option FrameAt) → ((k : ℕ) → loses s e k ≡ false → has_carrier s w k ≡ true → has_carrier s v k ≡ true) → FrameLit s w o → FrameLit s v (option_map (removed s e) o)
 removed_lit s w v e None stays h = tt
 removed_lit s w v e (Some f) stays h =
@@ -137,7 +137,7 @@ new_lit s = record { waits = λ k r c. refl; fibres = λ i. tt }
 pub step_lit : (s : Setting) (says : Result PtpMsg FrameFault) (y : ℤ) (w : WorldAt) (e : Event) → PortsDark s w → Accepts s w says e → IsLit s w → IsLit s (world_step s says y w e)
 step_lit s says y w e dark a h = record { waits = step_waits s says y w e dark h.waits; fibres = step_fibres s says y w e a h.fibres }
 
--- ports have their carriers where their links have
+-- ports have their carriers if their links have theirs
 pub ports_dark : CarriersAreTheLinks → (s : Setting) (events : List Happened) → IsRun s events → PortsDark s (world_after s events)
 ports_dark carriers s events run k r end is c =
     let it : LinkEnd s k r end = link_end s k r end is in

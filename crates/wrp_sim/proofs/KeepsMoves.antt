@@ -71,7 +71,7 @@ moved_up s w (Join k ms sm) n = refl
 pub step_up : (s : Setting) (says : Result PtpMsg FrameFault) (y : ℤ) (w : WorldAt) (e : Event) (n : ℕ) → ((world_step s says y w e).clock n).up ≡ up_after w e n
 step_up s says y w e n = given_up s y (given_by s w (moved s w e) says e) (moved s w e) n ∙ moved_up s w e n
 
--- inputs that are no tick
+-- inputs that are not a tick
 
 no_tick : (input : Input) (time before : ℤ) → NoTick input → ticked_by input time before ≡ before
 no_tick TickInput time before h = absurd h
@@ -138,7 +138,7 @@ new_modules s k r = record { name = refl; tx = refl; rx = refl }
 same_first : (s : Setting) (k : ℕ) (r : Role) (e f : EndAt) → SameModule e f → IsFirst s k r e → IsFirst s k r f
 same_first s k r e f same h = record { name = same.name ∙ h.name; tx = same.tx ∙ h.tx; rx = same.rx ∙ h.rx }
 
--- an event by which no module is put in place
+-- an event that puts no module in place
 abbrev pub NoSwaps : Event → Type 0
 NoSwaps (Up n off swaps) = swaps.items ≡ []
 NoSwaps _ = Unit {0}
@@ -174,7 +174,7 @@ SceneFibres scene s w = (k : ℕ) → HasDelays scene s k (w.fibre k)
 pub new_fibres : (scene : SceneAt) (s : Setting) → SceneFibres scene s (new_world s)
 new_fibres scene s k e = absurd (not_both false e refl)
 
--- an event by which no fibre moves, and links are joined with the scenario's delays
+-- an event by which no fibre moves, and links are joined only with the scenario's delays
 abbrev pub MovesNoFibre : SceneAt → Setting → Event → Type 0
 MovesNoFibre scene s (Pass dt drifts fibres) = (k : ℕ) → move_of fibres.items k ≡ (pos 0, pos 0)
 MovesNoFibre scene s (Join k ms sm) = (ms ≡ ms_of s.cfg scene k) × (sm ≡ sm_of s.cfg scene k)
@@ -228,7 +228,7 @@ abbrev pub LeavesYoung : Setting → WorldAt → Option Place → List Sending �
 LeavesYoung s w (Some place) (oldest ∷ rest) = (oldest.at ≡ w.time) × (delay_from w place.link place.role ≤ℤ pos (reach s.cfg))
 LeavesYoung s w _ _ = Unit {0}
 
--- an event by which a frame departs as it is sent
+-- an event by which frames depart only as they are sent
 abbrev pub DepartsYoung : Setting → WorldAt → Event → Type 0
 DepartsYoung s w (Depart n p stamp) = LeavesYoung s w (place_of s n p) (waiting_at w (place_of s n p))
 DepartsYoung s w _ = Unit {0}

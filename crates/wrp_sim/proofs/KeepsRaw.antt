@@ -11,7 +11,7 @@ near_step : (clock : Clock) (q : ℕ) → q < period_of clock → distance_round
 near_step Mhz125 q h = grind (arith, ints)
 near_step Mhz62 q h = grind (arith, ints)
 
--- the step that a tag tells, counted from the transition
+-- the step that a tag gives, counted from the transition
 step_back : (c transition : ℕ) → c < 16384 → transition ≤ 16383 → ((c + transition) % 16384 + 16384 - transition) % 16384 ≡ c
 step_back c transition h k = omega arith
 

@@ -106,7 +106,7 @@ between_steps scene s w at (Join k ms sm) may h = absurd may
 
 -- A simulator and its world
 
--- the laws that this stands on
+-- the laws that this rests on
 pub record Laws : Type 0 where
   pub carriers : CarriersAreTheLinks
   pub times : FramesHaveTimes

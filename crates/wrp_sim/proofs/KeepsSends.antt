@@ -1,4 +1,4 @@
--- A port without a carrier sends nothing, whatever its node is given; and at a carrier or a reset no port sends.
+-- A port without a carrier sends nothing, whatever its node is given; and no port sends at a carrier or a reset.
 use Rattle.std.proofs.Common.{◌≡◌, ◌∙◌, refl, ap, subst, ℕ, ℤ, ◌==◌, ◌&&◌, Bool, true, false, if◌then◌else◌, List, [], ◌++◌, Option, None, Some, Result, Ok, Err}
 use Rattle.std.proofs.lemmas.Bool.{eqb-true}
 use Rattle.wrp_base.specs.declared.link.LinkWord.TheVariants.{Down}
@@ -82,7 +82,7 @@ only_here : (b : Bool) (sends : List PtpMsg) → (b ≡ true → sends ≡ []) �
 only_here true sends h = h refl
 only_here false sends h = refl
 
--- the link of the port that is told, where it is this one
+-- the link of the port in question, if it is this port
 same_carrier : (fixed : NodeSetting) (n : NodeAt) (p q : ℕ) → (p == q) ≡ true → (link_at fixed.set n p).carrier ≡ false → (link_at fixed.set n q).carrier ≡ false
 same_carrier fixed n p q b e = subst (λ x. (link_at fixed.set n x).carrier ≡ false) (eqb-true p q b) e
 

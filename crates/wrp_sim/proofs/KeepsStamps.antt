@@ -1,4 +1,4 @@
--- The checks of stamps hold, of those that are drawn and of those that are true.
+-- The checks of stamps hold, both for drawn stamps and for true ones.
 use Rattle.std.proofs.Common.{◌≡◌, refl, ℕ, ◌+◌, ◌-◌, ◌*◌, ◌/◌, ◌%◌, ◌^◌, ◌<◌, ◌≤◌, ℤ, pos, negsuc, neg_ℤ, ◌+ℤ◌, ◌-ℤ◌, ◌≤ℤ◌, unsigned_abs, true, arith}
 use Rattle.std.proofs.lemmas.Int.{ints}
 use Rattle.std.specs.Int.Signed.{le_z}
@@ -68,7 +68,7 @@ raw_holds s transition e_tag at small wide least =
       ),
     )
 
--- a reading that can be told
+-- a reading that a stamp can show
 
 at_most_told : (a b : ℤ) → le_z a b ≡ true → a ≤ℤ b
 at_most_told a b e = grind (arith, ints)

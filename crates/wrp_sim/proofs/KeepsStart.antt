@@ -94,7 +94,7 @@ pub up_is_event : (scene : SceneAt) (s : Setting) (w : WorldAt) (n : ℕ) → Mo
 up_is_event scene s w n m below =
     (below, offset_small (offset_of scene n) (listed_at IsOffset scene.offsets n (pos 0) no_offset m.fits.offset), record { each = tt; apart = λ i j d less below. absurd (none_below j below) })
 
--- the tick times as a node comes up
+-- the tick times when a node comes up
 up_or : (b up : Bool) → b ≡ false → (if b then true else up) ≡ true → up ≡ true
 up_or true up e h = absurd (not_both true refl e)
 up_or false up e h = h
@@ -166,7 +166,7 @@ begins_good scene s w at m h =
     }))
     (λ b. wakes_good scene s w at m h (not_below_told k (link_count s.cfg) b))
 
--- behind the start every link and node had its turn
+-- after the start every link and node had its turn
 wakes_over : (scene : SceneAt) (s : Setting) (w : WorldAt) (n : ℕ) (at : SimAt) (b : Bool) → nat_lt n (node_count s.cfg) ≡ b → (if b then comes (up_event scene n) (with_tick s w.time n (one_begun at)) else None) ≡ None → node_count s.cfg ≤ n
 wakes_over scene s w n at true t e = absurd (none-some _ (sym e))
 wakes_over scene s w n at false t e = not_below_told n (node_count s.cfg) t
@@ -215,7 +215,7 @@ no_fault : (scene : SceneAt) (s : Setting) (w : WorldAt) (at : SimAt) (o : Optio
 no_fault scene s w at None e = refl
 no_fault scene s w at (Some f) e = absurd (always_some scene s w at f.kind e)
 
--- where no fault comes, none is left whose time has come
+-- if no fault comes, no fault is left whose time has come
 pub quiet_rest : (scene : SceneAt) (s : Setting) (w : WorldAt) (at : SimAt) → fails scene s w at ≡ None → AllQuiet s w.time (rest_of s w at).faults
 quiet_rest scene s w at e =
     quiet_left s w at.faults (none_at (λ f. has_come s w f && applies w f.kind) at.faults (no_fault scene s w (rest_of s w at) (next_fault s w at.faults) e))

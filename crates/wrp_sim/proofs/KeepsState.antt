@@ -1,4 +1,4 @@
--- What holds of a simulator and its world at every moment.
+-- What holds for a simulator and its world at every moment.
 use Rattle.std.proofs.Common.{◌≡◌, ◌∙◌, refl, ap, sym, subst, ℕ, zero, ◌+◌, ◌==◌, ◌≤◌, ◌<◌, ℤ, pos, ◌+ℤ◌, ◌≤ℤ◌, Bool, true, false, if◌then◌else◌, List, [], ◌∷◌, Option, None, Some, option_map, Result, arith}
 use Rattle.std.proofs.lemmas.Bool.{eqb-true}
 use Rattle.std.specs.Int.Signed.{le_z}
@@ -130,7 +130,7 @@ moved_joined s w (Noise n p octets raw) k = refl
 moved_joined s w (Down n) k = refl
 moved_joined s w (Up n off swaps) k = refl
 
--- a link that is joined, and a node that comes up, has its turn behind it
+-- a link that is joined, or a node that comes up, has had its turn
 abbrev pub HadTurn : Setting → Event → (begun : ℕ) → Type 0
 HadTurn s (Join l ms sm) begun = l < begun
 HadTurn s (Up m off swaps) begun = link_count s.cfg + m < begun
@@ -188,9 +188,10 @@ step_waits s says y w e old new more most turn h = record {
   nodes = λ n above. step_up s says y w e n ∙ up_waits s w e old new more turn h n above;
 }
 
--- A frame that is here stays so by an event that takes no time and no carrier, and is no arrival
+-- A frame that is here stays here after an event that takes no time and no carrier, and is not an
+-- arrival
 
--- events by which a frame stays here
+-- events after which a frame stays here
 abbrev pub IsGentle : Event → Type 0
 IsGentle (Pass dt drifts fibres) = ⊥
 IsGentle (Arrive i raw) = ⊥

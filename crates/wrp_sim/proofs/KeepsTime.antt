@@ -69,7 +69,7 @@ ticks_good scene s w at m h none =
     let both : ((w.clock n).up ≡ true) × (int_eq (at.tick_at n) w.time ≡ true) = and_parts (w.clock n).up (int_eq (at.tick_at n) w.time) it.0 in
     tick_good scene s w at n m h none it.1 both.0 (same_told (at.tick_at n) w.time both.1))
 
--- where no node ticks now, each that is up ticks later
+-- if no node ticks now, each that is up ticks later
 no_map : {A B : Type 0} (f : A → B) (o : Option A) → option_map f o ≡ None → o ≡ None
 no_map f None e = refl
 no_map f (Some x) e = absurd (none-some (f x) (sym e))
@@ -135,7 +135,7 @@ all_first : {A : Type 0} (P : A → Type 0) (xs ys : List A) → AllByRecursion 
 all_first P [] ys h = tt
 all_first P (x ∷ xs) ys h = (h.0, all_first P xs ys h.1)
 
--- what holds of each tick time of the nodes that are up
+-- what holds for each tick time of the nodes that are up
 up_case : (P : ℤ → Type 0) (tick : ℕ → ℤ) (b : Bool) (k : ℕ) (rest : List ℕ) → AllByRecursion P (map tick (cond b (k ∷ rest) rest)) → (b ≡ true → P (tick k)) × AllByRecursion P (map tick rest)
 up_case P tick true k rest h = (λ e. h.0, h.1)
 up_case P tick false k rest h = (λ e. absurd (not_both false e refl), h)
@@ -174,7 +174,7 @@ span_in now next h k = (omega (arith, ints, h), omega (arith, ints, k))
 span_small : (dt : ℤ) → pos 1 ≤ℤ dt → dt ≤ℤ pos 9_223_372_036_854_775_807 → unsigned_abs dt ≤ 9_223_372_036_854_775_807
 span_small dt h k = grind (arith, ints)
 
--- no node that is up ticks before the time that it passes to
+-- no node that is up ticks before the time to which it passes
 up_below : (scene : SceneAt) (s : Setting) (w : WorldAt) (at : SimAt) (n : ℕ) → Keeps scene s w at → (w.clock n).up ≡ true → n < node_count s.cfg
 up_below scene s w at n h up = elim (cases_lt n (node_count s.cfg)) [
   | inl below ↦ below

@@ -60,7 +60,7 @@ PortsDark s w =
     (k : ℕ) (r : Role) (end : End) → end_at s k r ≡ Some end → has_carrier s w k ≡ false →
     (link_at (s.set end.node) (w.node end.node) end.port).carrier ≡ false
 
--- one input, where the link has no carrier
+-- one input, if the link has no carrier
 one_waiting : (s : Setting) (y : ℤ) (v : WorldAt) (g : Given) (k : ℕ) (r : Role) → PortsDark s v → has_carrier s v k ≡ false → ((gives s y v g).end_at k r).waiting ≡ (v.end_at k r).waiting
 one_waiting s y v g k r dark c =
     given_waiting s y v g k r

@@ -42,7 +42,7 @@ untold_there s w k r link clock at port e f is g told =
     sym (there_by s w k r link clock at e f (g ∙ ap (λ (x : ℕ × ℕ). reading w x.0) is)
     ∙ ap (λ (b : Bool). if b then Some (departure_by (end_of r link).node at (end_of r link).port) else None) told)
 
--- what holds of two ports, where they are there, holds of the one that stands first
+-- if something holds for each of two ports that is there, it holds for the one that comes first
 
 one_of : (P : Departure → Type 0) (a b : Departure) (first : Bool) → P a → P b → IfSome (if first then Some b else Some a) P
 one_of P a b true h k = k

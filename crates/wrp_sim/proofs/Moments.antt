@@ -51,7 +51,7 @@ tried_one g f xs ys k d best next same less e =
     ∙ ap (λ (b : ℤ). fold g b (map f (drop (suc k) xs))) e
     ∙ sym (ap (λ (l : List Fault). fold g best (map f l)) (drop-cons xs k d less)))
 
--- all of it were tried
+-- all of the list were tried
 pub tried_all : (g : ℤ → ℤ → ℤ) (f : Fault → ℤ) (xs ys : List Fault) (k : ℕ) (best : ℤ) → xs ≡ ys → length xs ≤ k →
     best ≡ fold g best (map f (drop k ys))
 tried_all g f xs ys k best same h =

@@ -1,4 +1,5 @@
--- The soonest of the tick times of the nodes that are up, where it is known which time is the next one; and that no node ticks now.
+-- The soonest of the tick times of the nodes that are up, if it is known which time is the next one; and that no
+-- node ticks now.
 use Rattle.std.proofs.Common.{◌≡◌, ◌∙◌, refl, ap, ap₂, sym, subst, ℕ, zero, suc, ◌+◌, ◌<◌, ◌≤◌, ◌⊎◌, inl, inr, ℤ, ◌≤ℤ◌, ◌<ℤ◌, ◌&&◌, Bool, true, false, cond, if◌then◌else◌, List, [], ◌∷◌, length, map, filter, find, fold, Option, None, Some, slice_get, arith}
 use Rattle.std.proofs.lemmas.Int.{ints}
 use Rattle.std.specs.List.{AllByRecursion}
@@ -12,9 +13,9 @@ use Rattle.wrp_sim.specs.Rules.{sooner, tick_times, ticks_now}
 use Rattle.wrp_sim.specs.SimAt.{SimAt}
 use Rattle.wrp_sim.proofs.KeepsTime.{fold_least, fold_most}
 
--- Numbers from a first one on, of which some pass
+-- Numbers from a first one on, some of which pass
 
--- what holds of each, of each that passes
+-- what holds for each holds for each that passes
 all_times : (P : ℤ → Type 0) (f : ℕ → ℤ) (p : ℕ → Bool) (count first : ℕ) → ((i : ℕ) → i < count → P (f (first + i))) →
     AllByRecursion P (map f (filter p (from_on count first)))
 all_times P f p zero first h = tt
@@ -38,7 +39,7 @@ first_of : (P : ℤ → Type 0) (f : ℕ → ℤ) (n : ℕ) (ns : List ℕ) (b :
 first_of P f n ns true e h = h.0
 first_of P f n ns false e h = absurd (cc)
 
--- what holds of each that passes, of this one
+-- what holds for each that passes holds for this one
 at_time : (P : ℤ → Type 0) (f : ℕ → ℤ) (p : ℕ → Bool) (count first : ℕ) → AllByRecursion P (map f (filter p (from_on count first))) →
     (i : ℕ) → i < count → p (first + i) ≡ true → P (f (first + i))
 at_time P f p zero first h i l e = absurd (omega (arith, l))
@@ -67,7 +68,8 @@ time_at (x ∷ xs) (suc k) h = time_at xs k (omega (arith, h))
 
 -- Moments
 
--- a moment that is no later than a sooner one, and no later than those after now
+-- a moment that is no later than the best one, and no later than those after now, is no later than
+-- the sooner one
 above_sooner : (now lo best t : ℤ) → lo ≤ℤ best → (t ≤ℤ now) ⊎ (lo ≤ℤ t) → lo ≤ℤ sooner now best t
 above_sooner now lo best t l (inl h) = grind (arith, ints)
 above_sooner now lo best t l (inr h) = grind (arith, ints)

@@ -5,7 +5,7 @@ use Rattle.std.proofs.lemmas.Option.{same_Some, slice_get_within}
 use Rattle.std.specs.Int.Signed.{le_z, lt_z}
 use Rattle.wrp_sim.specs.NextTick.{IsNext, IsSoonest, is_sooner}
 
--- of the times at the first places
+-- for the times at the first places
 abbrev pub SoonestTo : (since : ℤ) (ticks : List ℤ) (i : ℕ) (best : ℤ) → Type 0
 SoonestTo since ticks i best = (n : ℕ) (t : ℤ) → n < i → slice_get ticks n ≡ Some t → (t <ℤ since) ⊎ (best ≤ℤ t)
 
@@ -52,7 +52,7 @@ pub all_of : (since : ℤ) (ticks : List ℤ) (i : ℕ) (best : ℤ) → length 
     (n : ℕ) (t : ℤ) → slice_get ticks n ≡ Some t → (t <ℤ since) ⊎ (best ≤ℤ t)
 all_of since ticks i best h s n t e = let l : n < length ticks = slice_get_within ticks n t e in s n t (omega (arith, h, l)) e
 
--- The first time is the next one, where the moment has come and it has not
+-- The first time is the next one, if the moment has come and the first time has not
 
 since_or : (now since best at t : ℤ) → since ≤ℤ now → at ≡ best → (t <ℤ since) ⊎ (best ≤ℤ t) → (t ≤ℤ now) ⊎ (at ≤ℤ t)
 since_or now since best at t h e (inl l) = inl (omega (arith, ints, h, l))

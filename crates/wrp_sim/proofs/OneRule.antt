@@ -1,4 +1,4 @@
--- In alike worlds the rules of the simulator give one event.
+-- In worlds that are alike the rules of the simulator give one event.
 use Rattle.std.proofs.Common.{◌≡◌, ◌∙◌, inl, inr, refl, ap, ap₂, sym, subst, ℕ, ℤ, pos, ◌-ℤ◌, if◌then◌else◌, Option, None, Some, is_some, List, [], ◌∷◌, map, arith}
 use Rattle.std.proofs.lemmas.Int.{ints}
 use Rattle.wrp_node.proofs.OneRun.{SameServo, with_calls}
@@ -50,7 +50,7 @@ one_due w (Some m) (Some n) p q =
     let same = two_due w m n p q in
     ap₂ (λ (i : ℕ) (t : ℤ). Some (i, t)) same.0 same.1
 
--- The rules in alike worlds
+-- The rules in worlds that are alike
 
 dac_same : (fixed : NodeSetting) (n : NodeAt) (calls : List Call) → SameServo fixed n.calls calls → dac_of fixed (with_calls calls n) ≡ dac_of fixed n
 dac_same fixed n calls h = ap (λ (v : Core). if is_some (slave_of fixed.set) then v.phase.dac else fixed.set.servo.bias) (sym h)
@@ -84,7 +84,7 @@ next_alike scene s v calls inputs due at servo =
     ∷ (arrives scene s v due (rest_of s v at) ∷ (ticks s v (rest_of s v at) ∷ (last ∷ []))))))))
     ) (passes_alike scene s v calls inputs due (rest_of s v at) servo)
 
--- in alike worlds the rules give one
+-- in worlds that are alike the rules give one event
 pub gives_one : (scene : SceneAt) (s : Setting) (v w : WorldAt) (at : SimAt) (m n : Option Next) → Alike s v w → Gives scene s v at m → Gives scene s w at n → m ≡ n
 gives_one scene s v w at m n h p q =
     let other : Gives scene s (with_all h.calls h.inputs v) at n = subst (λ (k : WorldAt). Gives scene s k at n) h.is q in

@@ -1,4 +1,4 @@
--- What each rule gives, by what is found as it is tried.
+-- What each rule gives, by what is found when it is tried.
 use Rattle.std.proofs.Common.{◌≡◌, ◌∙◌, refl, ap, ap₂, sym, ℕ, ◌-◌, ◌≤◌, nat_lt, ℤ, ◌-ℤ◌, Bool, true, false, if◌then◌else◌, List, find, Option, None, Some, option_map, option_and_then, arith}
 use Rattle.std.proofs.lemmas.Option.{none-some, same_Some}
 use Rattle.wrp_base.specs.declared.time.Raw.{Raw}

@@ -1,4 +1,4 @@
--- What is asked of a world: sizes, and what is read of its nodes and links.
+-- What a world is asked: sizes, and what is read of its nodes and links.
 use Rattle.std.proofs.Common.{◌≡◌, ◌∙◌, ap, sym, ℕ, ℤ, length, Some, slice_get}
 use Rattle.wrp_network.specs.declared.configuration.NetCfg.{NetCfg}
 use Rattle.wrp_network.specs.declared.network.LinkCfg.{LinkCfg}

@@ -1,4 +1,4 @@
--- How far a clock moves that is steered so, or whose node is down.
+-- How far a clock with this steering moves, or a clock whose node is down.
 use Rattle.std.proofs.Common.{◌≡◌, ◌∙◌, ap, sym, ℕ, ℤ, pos, Bool, true, false, if◌then◌else◌, Option, None, Some}
 use Rattle.std.proofs.lemmas.Option.{none-some, same_Some}
 use Rattle.wrp_course.specs.Setting.{Setting}
@@ -9,7 +9,7 @@ use Rattle.wrp_world.specs.Steered.{steering_in, steering_of}
 use Rattle.wrp_sim.specs.Numbers.{drift_at, held_to, own_rate}
 use Rattle.wrp_sim.specs.Rules.{clock_rate, drift_over}
 
--- the rate of a clock that is steered so
+-- the rate of a clock with this steering
 abbrev pub rate_by : SceneAt → Setting → ℕ → Steer → ℤ
 rate_by scene s n it = held_to it.kept (own_rate (free_of scene n) it.dac s.cfg.bias)
 

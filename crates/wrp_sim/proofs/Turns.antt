@@ -21,7 +21,7 @@ pub by_first : (stays : SimAt) (rule : Option Next) (rules : List (Option Next))
 by_first stays None rules event sim h = absurd h
 by_first stays (Some next) rules event sim h = h
 
--- what the rules behind it gave
+-- what the rules after it gave
 pub by_later : (stays : SimAt) (rule : Option Next) (rules : List (Option Next)) (event : Option Event) (sim : State) →
     rule ≡ None → Gave stays (first_of rules) event sim → Gave stays (first_of (rule ∷ rules)) event sim
 by_later stays rule rules event sim e h = subst (λ r. Gave stays (first_of (r ∷ rules)) event sim) (sym e) h
@@ -32,7 +32,7 @@ by_last stays None None sim h = h
 by_last stays None (Some event) sim h = absurd h
 by_last stays (Some next) event sim h = h
 
--- an event is no matter of what stays
+-- if a rule gave an event, it does not matter what stays
 pub whatever_stays : (a b : SimAt) (rule : Option Next) (event : Event) (sim : State) → Gave a rule (Some event) sim → Gave b rule (Some event) sim
 whatever_stays a b None event sim h = absurd h
 whatever_stays a b (Some next) event sim h = h
@@ -40,7 +40,7 @@ whatever_stays a b (Some next) event sim h = h
 pub gives_same : (stays : SimAt) (a b : Option Next) (event : Option Event) (sim : State) → a ≡ b → Gave stays a event sim → Gave stays b event sim
 gives_same stays a b event sim e h = subst (λ r. Gave stays r event sim) e h
 
--- a rule that gave no event leaves all to those behind it
+-- a rule that gave no event leaves everything to the rules after it
 pub passes_on : (stays : SimAt) (rule : Option Next) (event : Option Event) (sim : State) → event ≡ None → Gave stays rule event sim → (rule ≡ None) × SimIs stays sim
 passes_on stays rule event sim e h =
     let gave : Gave stays rule None sim = subst (λ x. Gave stays rule x sim) e h in
@@ -58,7 +58,7 @@ first_gave stays rule rules given event sim e h = by_first stays rule rules even
 pub came : (stays at : SimAt) (made event given : Event) (sim : State) → made ≡ event → Gave stays (comes made at) (Some given) sim → Gave stays (comes event at) (Some given) sim
 came stays at made event given sim e h = (h.0 ∙ e, h.1)
 
--- a place has an event where one was put into it, and else none
+-- a place has an event if one was put into it, otherwise none
 
 pub put_one : (b : Bool) (e : Event) → b ≡ true → put b e ≡ Some e
 put_one b e h = ap (λ x. put x e) h

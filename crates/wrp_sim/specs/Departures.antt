@@ -22,7 +22,7 @@ departure_by n at p = record { node = n; port = p; at = at }
 abbrev pub departure_from : WorldAt → ℕ × ℕ → Departure
 departure_from w port = departure_by port.0 (reading w port.0) port.1
 
--- a stamp can tell this reading
+-- a stamp can show this reading
 pub record IsReadable (at : ℤ) : Type 0 where
   pub least : pos 0 ≤ℤ at
   pub greatest : unsigned_abs at ≤ 2 ^ 92
@@ -30,17 +30,18 @@ pub record IsReadable (at : ℤ) : Type 0 where
 abbrev pub IsDeparture : Departure → Type 0
 IsDeparture from = IsReadable from.at
 
--- where a port stands: by its node in file order, then ascending, and the numbers of ports are below 32
+-- the place of a port in the order: by its node in file order, then by its number, ascending; port
+-- numbers are below 32
 abbrev pub standing : Departure → ℕ
 standing d = d.node * 32 + d.port
 
--- that of two which stands first
+-- the one of two that comes first
 abbrev pub first_of_two : (a b : Option Departure) → Option Departure
 first_of_two None b = b
 first_of_two (Some a) None = Some a
 first_of_two (Some a) (Some b) = if nat_lt (standing b) (standing a) then Some b else Some a
 
--- the port at an end, where its node's clock can be told
+-- the port at an end, if a stamp can show its node's clock
 abbrev pub told_end : Setting → WorldAt → End → Option Departure
 told_end s w end =
     if is_tellable s (reading w end.node) then Some (departure_by end.node (reading w end.node) end.port) else None
@@ -48,15 +49,15 @@ told_end s w end =
 abbrev pub told_at : Setting → WorldAt → ℕ → Role → Option Departure
 told_at s w k r = option_and_then (told_end s w) (end_at s k r)
 
--- and where its oldest waiting frame was put out now
+-- and if its oldest waiting frame was put out now
 abbrev pub departing_at : Setting → WorldAt → ℕ → Role → Option Departure
 departing_at s w k r = if is_now w (oldest_of (w.end_at k r).waiting) then told_at s w k r else None
 
--- one more link has its ends tried
+-- the ends of one more link are tried
 abbrev pub departing_over : Setting → WorldAt → Option Departure → ℕ → Option Departure
 departing_over s w first k = first_of_two (first_of_two first (departing_at s w k Master)) (departing_at s w k Slave)
 
--- the frame departs whose stamp is drawn at this reading
+-- the frame departs with a stamp that is drawn at this reading
 abbrev pub departs_by : Setting → SimAt → Departure → Option Event → State → Type 0
 departs_by s at from event new =
     Gave at (comes (Depart from.node from.port (drawn_stamp (stamp_room s from.node) from.at at.state)) (after_draw at)) event new

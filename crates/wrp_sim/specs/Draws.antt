@@ -1,4 +1,5 @@
--- Numbers that are drawn, each from a state that the one before it left: splitmix64 (this project's profile).
+-- Numbers that are drawn, each from the state that the one before it left: splitmix64 (this project's
+-- profile).
 use Rattle.std.specs.Prelude.{◌≡◌, ℕ, zero, suc, ℤ, pos, List, [], ◌∷◌, ◌+◌, ◌*◌, ◌/◌, ◌%◌, ◌^◌, ◌+ℤ◌, ◌-ℤ◌, bit_xor, unsigned_abs}
 
 -- a number of 64 bits
@@ -9,11 +10,11 @@ word_of x = x % 2 ^ 64
 abbrev pub next_state : ℕ → ℕ
 next_state state = word_of (state + 0x9E3779B97F4A7C15)
 
--- a number with itself, so many bits lower, mixed into it
+-- a number, with itself shifted down by so many bits mixed into it
 abbrev pub folded : (bits x : ℕ) → ℕ
 folded bits x = bit_xor x (x / 2 ^ bits)
 
--- the number that is drawn as this state is reached
+-- the number that is drawn when this state is reached
 abbrev pub mixed : ℕ → ℕ
 mixed z = folded 31 (word_of (folded 27 (word_of (folded 30 z * 0xBF58476D1CE4E5B9)) * 0x94D049BB133111EB))
 

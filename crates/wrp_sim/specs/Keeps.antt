@@ -18,11 +18,11 @@ use Rattle.wrp_sim.specs.SimRun.{Gives, GivesEvent, IsSimRun}
 pub data Turn : Type 0 where
   -- an event of the simulator comes to the world
   Comes : (happened : Happened) → Turn
-  -- one by which it hands over a frame is left out
+  -- an event by which it hands over a frame is left out
   LeftOut : (frame : ℕ) → Turn
-  -- it gives none
+  -- it gives no event
   Silent : Turn
-  -- a frame is handed over, or octets come, of which the simulator knows nothing
+  -- a frame is handed over, or octets come, and the simulator knows nothing of it
   Between : (happened : Happened) → Turn
 
 -- the events that came to the world, the newest first
@@ -33,7 +33,7 @@ events_of (LeftOut i ∷ before) = events_of before
 events_of (Silent ∷ before) = events_of before
 events_of (Between h ∷ before) = h ∷ events_of before
 
--- events that may come between those of the simulator
+-- events that may come between the events of the simulator
 abbrev pub MayBeBetween : Event → Type 0
 MayBeBetween (Deliver i) = Unit {0}
 MayBeBetween (Noise n p octets raw) = Unit {0}
@@ -43,7 +43,7 @@ MayBeBetween _ = ⊥
 abbrev pub IsAccepted : Setting → List Happened → Happened → Type 0
 IsAccepted s before h = IsEventOf s.cfg h.event × Accepts s (world_after s before) h.says h.event
 
--- a simulator and its world after these turns, the newest first, and what has been drawn and done then
+-- a simulator and its world after these turns, the newest first, and what has then been drawn and done
 abbrev pub IsDriven : SceneAt → Setting → (seed : ℕ) → List Turn → SimAt → Type 0
 IsDriven scene s seed [] at = at ≡ new_sim scene seed
 IsDriven scene s seed (Comes h ∷ before) at =

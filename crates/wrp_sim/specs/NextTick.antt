@@ -20,7 +20,7 @@ is_ahead it now = le_z it.since now && lt_z now it.best
 abbrev pub NoneAt : ℤ → List ℤ → Type 0
 NoneAt now ticks = (n : ℕ) (t : ℤ) → slice_get ticks n ≡ Some t → int_eq t now ≡ false
 
--- of the times after now this is the first
+-- this is the first of the times after now
 pub record IsNext (now : ℤ) (ticks : List ℤ) (n : ℕ) (at : ℤ) : Type 0 where
   pub there : slice_get ticks n ≡ Some at
   pub later : now <ℤ at

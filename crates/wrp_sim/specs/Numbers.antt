@@ -1,4 +1,4 @@
--- The numbers that stand in the events of a simulator (this project's profile). Times are in tau, rates in 10^-12.
+-- The numbers in the events of a simulator (this project's profile). Times are in tau, rates in 10^-12.
 use Rattle.std.specs.Prelude.{ℕ, ℤ, pos, neg_ℤ, ◌+◌, ◌-◌, ◌*◌, ◌/◌, ◌%◌, ◌^◌, ◌&&◌, ◌+ℤ◌, ◌-ℤ◌, ◌*ℤ◌, unsigned_abs, Bool, Option, None, Some}
 use Rattle.std.specs.Int.Signed.{le_z, lt_z}
 use Rattle.wrp_base.specs.Clock.{period_of, step_of, steps_of_period}
@@ -9,27 +9,27 @@ use Rattle.wrp_base.specs.Held.{held_within}
 use Rattle.wrp_stamp.specs.StampBound.{true_place}
 use Rattle.wrp_sim.specs.Draws.{drawn_from}
 
--- what happens so often of 1000 times is drawn
+-- it is drawn whether something happens that happens so often of 1000 times
 abbrev pub is_drawn : (permille state : ℕ) → Bool
 is_drawn permille state = lt_z (drawn_from (pos 0) (pos 999) state) (pos permille)
 
 -- Samples
 
--- how many bits are 0 at the front: 32, and up to beat more or less
+-- how many bits are 0 at the front: 32, plus or minus up to beat
 abbrev pub drawn_zeros : (beat state : ℕ) → ℕ
 drawn_zeros beat state = unsigned_abs (pos 32 +ℤ drawn_from (neg_ℤ (pos beat)) (pos beat) state)
 
--- so many bits 0, and the rest of 64 bits 1
+-- this many bits 0, and the rest of 64 bits 1
 abbrev pub bits_behind : ℕ → ℕ
 bits_behind zeros = 2 ^ (64 - zeros) - 1
 
--- the base that lies 32 steps before a step of the detector
+-- the base that is 32 steps before a step of the detector
 abbrev pub base_before : ℕ → ℕ
 base_before step = (step + (steps_of_period - 32)) % steps_of_period
 
 -- Stamps
 
--- a reading that a stamp can tell: from 2 to 2^62 periods
+-- a reading that a stamp can show: from 2 to 2^62 periods
 abbrev pub is_within : Clock → ℤ → Bool
 is_within clock at = le_z (pos (2 * period_of clock)) at && le_z at (pos (2 ^ 62 * period_of clock))
 
@@ -40,7 +40,7 @@ whole_thousands at = floor_quotient at (pos 1_000) *ℤ pos 1_000
 abbrev pub stamp_at : (at more : ℤ) → ℤ
 stamp_at at more = whole_thousands at +ℤ (pos 1_000 *ℤ more)
 
--- up to k of them, more or less
+-- with up to k times 1,000 tau more or less
 abbrev pub drawn_stamp : (k : ℕ) (at : ℤ) (state : ℕ) → ℤ
 drawn_stamp k at state = stamp_at at (drawn_from (neg_ℤ (pos k)) (pos k) state)
 
@@ -69,7 +69,7 @@ raw_at clock transition at = record {
 
 -- Rates
 
--- the rate of a clock by itself: 10 less for each step of the DAC above the bias
+-- the rate of a clock by itself: 10 less for each step that the DAC is above the bias
 abbrev pub own_rate : (free : ℤ) (dac : ℕ) (bias : ℤ) → ℤ
 own_rate free dac bias = free -ℤ (pos 10 *ℤ (pos dac -ℤ bias))
 

@@ -30,12 +30,12 @@ use Rattle.wrp_sim.specs.Numbers.{base_before, bits_behind, drawn_stamp, drawn_z
 use Rattle.wrp_scene.specs.Scenario.{SceneAt, free_of, ms_of, offset_of, sm_of}
 use Rattle.wrp_sim.specs.SimAt.{SimAt}
 
--- the event that comes, and what has been drawn and done then
+-- the event that comes, and what has then been drawn and done
 pub record Next : Type 0 where
   pub event : Event
   pub at : SimAt
 
--- an event comes that is no tick
+-- an event comes that is not a tick
 abbrev pub comes : Event → SimAt → Option Next
 comes event at = Some (record { event = event; at = record at { ticked = None } })
 
@@ -73,7 +73,8 @@ begins scene s w at =
     if nat_lt at.begun (link_count s.cfg) then comes (join_event scene s at.begun) (one_begun at)
     else wakes scene s w (at.begun - link_count s.cfg) at
 
--- Rule 2: a fault whose time has come and that applies; one that does not apply in its turn is dropped for good
+-- Rule 2: a fault whose time has come and that applies; a fault that does not apply in its turn is dropped for
+-- good
 
 abbrev pub fault_time : Setting → Fault → ℤ
 fault_time s f = start_of s +ℤ f.at
@@ -91,7 +92,7 @@ applies w (kind.Join k) = not (w.fibre k).joined
 abbrev pub next_fault : Setting → WorldAt → List Fault → Option Fault
 next_fault s w faults = find (λ f. has_come s w f && applies w f.kind) faults
 
--- the faults that are left: those whose time has not come, and those that stand behind the one that applies
+-- the faults that are left: those whose time has not come, and those that follow the one that applies
 abbrev pub faults_left : Setting → WorldAt → List Fault → List Fault
 faults_left s w [] = []
 faults_left s w (f ∷ faults) =
@@ -115,7 +116,8 @@ fails scene s w at = option_and_then (λ f. fault_of scene s w (rest_of s w at) 
 abbrev pub first_entry : Setting → ℕ → Role → Option Module
 first_entry s k r = entry_at s k r (first_name s k r)
 
--- the one-way delay down: of the scenario's fibre, and of the ports by the entries of their modules
+-- the one-way delay down: the delay of the scenario's fibre, and the delays of the ports by the
+-- entries of their modules
 abbrev pub delay_down : SceneAt → Setting → ℕ → ℤ
 delay_down scene s k =
     (pos (option_map_or (λ m. m.tx) (first_entry s k Master) 0) +ℤ ms_of s.cfg scene k)
@@ -140,12 +142,13 @@ abbrev pub samples : SceneAt → Setting → WorldAt → SimAt → Option Next
 samples scene s w at =
     option_and_then (λ n. option_and_then (λ k. sample_below scene s w at n k) (above s n)) at.ticked
 
--- Rule 4: the first port whose oldest waiting frame was put out now, and whose node's clock can be told: it departs
+-- Rule 4: the first port whose oldest waiting frame was put out now, and whose node's clock a stamp can show: that
+-- frame departs
 
 abbrev pub is_tellable : Setting → ℤ → Bool
 is_tellable s at = is_within s.cfg.clock at
 
--- ports by nodes in file order, then ascending: they have the numbers 1 to 18
+-- ports by nodes in file order, then by their numbers, ascending: these are 1 to 18
 abbrev pub ports_of : Setting → List (ℕ × ℕ)
 ports_of s = flat_map (λ n. map (λ p. (n, p)) (from_on 18 1)) (nodes_of s)
 
@@ -173,7 +176,8 @@ delivers at =
     then comes (Deliver at.arrived.frame) (record at { arrived = record at.arrived { times = at.arrived.times - 1 } })
     else None
 
--- Rule 6: the frame that is due first arrives, where it is due now and its receiver's clock can be told
+-- Rule 6: the frame that is due first arrives, if it is due now and a stamp can show its receiver's
+-- clock
 
 abbrev pub true_raw : Setting → (transition : ℕ) → ℤ → Raw
 true_raw s transition at = raw_at s.cfg.clock transition at
@@ -187,7 +191,7 @@ raw_by s w k r end =
 abbrev pub raw_to : Setting → WorldAt → ℕ → Role → Option Raw
 raw_to s w k r = option_and_then (raw_by s w k r) (end_at s k r)
 
--- of frame i, at the end that it comes to
+-- for frame i, at the end that it comes to
 abbrev pub raw_of : Setting → WorldAt → ℕ → Option Raw
 raw_of s w i = option_and_then (λ f. raw_to s w f.link (other_of f.by)) (w.frame i)
 
@@ -206,12 +210,12 @@ abbrev pub arrives_by : SceneAt → Setting → WorldAt → SimAt → ℕ → Op
 arrives_by scene s w at i =
     option_and_then (λ raw. comes (Arrive i raw) (after_arrival scene i at)) (raw_of s w i)
 
--- of the frame that is due first, and that time
+-- for the frame that is due first, with the time at which it is due
 abbrev pub arrives : SceneAt → Setting → WorldAt → Option (ℕ × ℤ) → SimAt → Option Next
 arrives scene s w due at =
     option_and_then (λ next. if int_eq next.1 w.time then arrives_by scene s w at next.0 else None) due
 
--- Rule 7: a node ticks whose tick time is now; a node that is down has none
+-- Rule 7: a node ticks if its tick time is now; a node that is down has no tick time
 
 abbrev pub ticks_now : WorldAt → SimAt → ℕ → Bool
 ticks_now w at n = (w.clock n).up && int_eq (at.tick_at n) w.time
@@ -222,7 +226,7 @@ tick_of s w at n = record { event = Tick n; at = record (with_tick s w.time n at
 abbrev pub ticks : Setting → WorldAt → SimAt → Option Next
 ticks s w at = option_map (tick_of s w at) (find (ticks_now w at) (nodes_of s))
 
--- Rule 8: nothing, where the duration has passed
+-- Rule 8: nothing, if the duration has passed
 
 abbrev pub end_time : SceneAt → Setting → ℤ
 end_time scene s = start_of s +ℤ scene.duration
@@ -244,16 +248,16 @@ abbrev pub moments : SceneAt → Setting → WorldAt → Option (ℕ × ℤ) →
 moments scene s w due at =
     tick_times s w at ++ (due_times due ++ (map (fault_time s) at.faults ++ (end_time scene s ∷ [])))
 
--- the sooner of two moments, of which the second counts where it is after now
+-- the sooner of two moments, the second of which counts only if it is after now
 abbrev pub sooner : (now best moment : ℤ) → ℤ
 sooner now best moment = if lt_z now moment && lt_z moment best then moment else best
 
--- the least of them that is after now, and at most 2^62 tau after it
+-- the least of these moments that is after now, and at most 2^62 tau after it
 abbrev pub next_moment : ℤ → List ℤ → ℤ
 next_moment now times = fold (sooner now) (now +ℤ pos (2 ^ 62)) times
 
--- the rate at which a clock that is up gains on true time, in 10^-12: its own, but it keeps its
--- slew where it is locked and its held in HOLDOVER, and the grandmaster's is 0
+-- the rate at which a clock that is up gains on true time, in 10^-12: its own, but a locked clock
+-- keeps its slew, a clock in HOLDOVER keeps its held rate, and the grandmaster's is 0
 abbrev pub clock_rate : SceneAt → Setting → WorldAt → ℕ → ℤ
 clock_rate scene s w n =
     held_to (rate_of s w n) (own_rate (free_of scene n) (dac_of (node_setting_of s n) (w.node n)) s.cfg.bias)
@@ -278,7 +282,7 @@ first_of [] = None
 first_of (None ∷ rules) = first_of rules
 first_of (Some next ∷ rules) = Some next
 
--- what the rules give in a world whose frames are due so, behind the faults that are dropped
+-- what the rules give after the dropped faults, in a world whose frames are due at these times
 abbrev pub later_rules : SceneAt → Setting → WorldAt → Option (ℕ × ℤ) → SimAt → List (Option Next)
 later_rules scene s w due at =
     samples scene s w at
@@ -288,6 +292,6 @@ later_rules scene s w due at =
 abbrev pub rules : SceneAt → Setting → WorldAt → Option (ℕ × ℤ) → SimAt → List (Option Next)
 rules scene s w due at = begins scene s w at ∷ (fails scene s w at ∷ later_rules scene s w due (rest_of s w at))
 
--- the first of them that applies; due is the frame that is due first, with that time
+-- the first of the rules that applies; due is the frame that is due first, with that time
 abbrev pub next_of : SceneAt → Setting → WorldAt → Option (ℕ × ℤ) → SimAt → Option Next
 next_of scene s w due at = first_of (rules scene s w due at)

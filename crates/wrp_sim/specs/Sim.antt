@@ -1,4 +1,5 @@
--- What a simulator holds, and what has been drawn and done that it stands for (this project's profile).
+-- What a simulator holds, and what it stands for: the numbers drawn and the events done (this project's
+-- profile).
 use Rattle.std.specs.Prelude.{◌≡◌, ◌<◌, ◌≤◌, ◌+◌, ℕ, ℤ, Bool, true, false, List, length, Option, None, Some, IfSome}
 use Rattle.std.specs.List.{AllByRecursion}
 use Rattle.wrp_network.specs.declared.configuration.NetCfg.{NetCfg}
@@ -24,8 +25,8 @@ pub record SimIs (at : SimAt) (sim : State) : Type 0 where
   pub ticked : sim.ticked ≡ at.ticked
   pub arrived : sim.arrived ≡ at.arrived
 
--- a simulator of a network: its scenario is one of it, and so are the faults that are left and the node that ticked; the frame
--- that arrived last is still handed over twice at most
+-- a simulator of a network: its scenario belongs to the network, and so do the faults that are left and the node
+-- that ticked; the frame that arrived last is still handed over at most twice
 pub record FitsSim (cfg : NetCfg) (sim : State) : Type 0 where
   pub scene : IsSceneOf cfg sim.scene
   pub faults : AllByRecursion (IsFault cfg) sim.faults.items
@@ -34,22 +35,23 @@ pub record FitsSim (cfg : NetCfg) (sim : State) : Type 0 where
   pub begun : sim.begun ≤ length cfg.links.items + node_count cfg
   pub arrived : sim.arrived.times ≤ 2
 
--- the event that was put into its place, where one was
+-- the event that was put into its place, if there was one
 abbrev pub put : Bool → Event → Option Event
 put true event = Some event
 put false event = None
 
--- an event in which so much true time passes
+-- an event in which this much true time passes
 abbrev pub IsPassOf : ℤ → Event → Type 0
 IsPassOf dt (Pass passing drifts fibres) = passing ≡ dt
 IsPassOf dt _ = ⊥
 
--- one in which, besides, clocks move so
+-- an event in which this time passes and clocks move by this
 abbrev pub HasDrifts : ℤ → List ℤ → Event → Type 0
 HasDrifts dt moves (Pass passing drifts fibres) = (passing ≡ dt) × (drifts.items ≡ moves)
 HasDrifts dt moves _ = ⊥
 
--- a rule gave this: an event, or, where it does not apply, none; and the simulator stands for what has been drawn and done then
+-- a rule gave this: an event, or none if the rule does not apply; and the simulator stands for what has then been
+-- drawn and done
 abbrev pub Gave : SimAt → Option Next → Option Event → State → Type 0
 Gave stays None None sim = SimIs stays sim
 Gave stays (Some next) (Some event) sim = (event ≡ next.event) × SimIs next.at sim
@@ -61,7 +63,7 @@ Follows post rule stays world old new event =
     (s : Setting) (w : WorldAt) (at : SimAt) → StandsFor post s w world → SimIs at old →
     Gave (stays s w at) (rule old.scene s w at) event new
 
--- a rule that leaves all as it is where it does not apply
+-- a rule that leaves everything as it is if the rule does not apply
 abbrev pub as_is : Setting → WorldAt → SimAt → SimAt
 as_is s w at = at
 
@@ -69,11 +71,11 @@ as_is s w at = at
 abbrev pub IsOnFibre : {F : Type 0} → (F → ℤ → ℤ → Type 0) → WorldOf F → ℕ → Type 0
 IsOnFibre post world i = (s : Setting) (w : WorldAt) → StandsFor post s w world → is_on_fibre (w.frame i) ≡ true
 
--- what is due first is a frame on a fibre, if there is one
+-- the frame that is due first is on a fibre, if there is such a frame
 abbrev pub IsDue : {F : Type 0} → (F → ℤ → ℤ → Type 0) → WorldOf F → Option (ℕ × ℤ) → Type 0
 IsDue post world due = IfSome due (λ next. IsOnFibre post world next.0)
 
--- what a step of a simulator leaves as it is: its scenario, and that it is one of the network
+-- what a step of a simulator leaves unchanged: its scenario, and that the simulator is one of the network
 pub record StaysFit (cfg : NetCfg) (old new : State) : Type 0 where
   pub scene : new.scene ≡ old.scene
   pub fits : FitsSim cfg new

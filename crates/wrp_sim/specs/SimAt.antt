@@ -13,7 +13,7 @@ pub record SimAt : Type 0 where
   pub faults : List Fault
   -- by node: when it ticks next, in true time
   pub tick_at : ℕ → ℤ
-  -- the node whose tick came last, where no other event of the simulator came since
+  -- the node whose tick came last, if no other event of the simulator came since
   pub ticked : Option ℕ
   -- the frame that arrived last, and how often it is still handed over
   pub arrived : Handed

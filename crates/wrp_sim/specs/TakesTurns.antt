@@ -1,4 +1,5 @@
--- What a simulator answers, of whatever became of it and its world: an event that the world accepts (this project's profile).
+-- What a simulator answers, whatever became of it and its world: an event that the world accepts (this project's
+-- profile).
 use Rattle.std.specs.Prelude.{◌≡◌, ℕ, ℤ, List, ◌∷◌, Option, None, Some, Result}
 use Rattle.wrp_base.specs.declared.message.PtpMsg.{PtpMsg}
 use Rattle.wrp_frame.specs.declared.fault.FrameFault.{FrameFault}
@@ -27,7 +28,7 @@ pub record TurnsTo (s : Setting) (seed : ℕ) (turns : List Turn) (at : SimAt) (
   pub is : SimIs at sim
   pub driven : IsDriven sim.scene s seed turns at
 
--- an event that the world accepts, whatever is noted beside it; and it is the next turn, or is left out
+-- an event that the world accepts, whatever is noted with it; and it is the next turn, or is left out
 pub record GivesAccepted (s : Setting) (seed : ℕ) (turns : List Turn) (new : State) (e : Event) : Type 0 where
   pub event : IsEventOf s.cfg e
   pub accepted : (says : Result PtpMsg FrameFault) → Accepts s (world_after s (events_of turns)) says e
@@ -41,7 +42,7 @@ abbrev pub GivesTurn : Setting → (seed : ℕ) → List Turn → State → Opti
 GivesTurn s seed turns new None = (at : SimAt) × TurnsTo s seed (Silent ∷ turns) at new
 GivesTurn s seed turns new (Some e) = GivesAccepted s seed turns new e
 
--- whichever turns the world and the simulator stood for
+-- the same for any turns that the world and the simulator stood for
 abbrev pub TakesTurns : {F : Type 0} → (F → ℤ → ℤ → Type 0) → WorldOf F → (old new : State) → Option Event → Type 0
 TakesTurns post world old new event =
     (s : Setting) (seed : ℕ) (turns : List Turn) (at : SimAt) → StandsDriven post s seed turns at world old → GivesTurn s seed turns new event

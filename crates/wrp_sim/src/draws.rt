@@ -22,7 +22,7 @@ impl Model for Draws {
     ghost view = { λ d. d.state };
 }
 
-// A number with itself, so many bits lower, mixed into it.
+// A number, with itself shifted down by so many bits mixed into it.
 fn folded(bits: u32, x: u64) -> u64
     requires { bits ≤ 63 }
     ensures { result ≡ spec.folded bits x }
@@ -30,7 +30,7 @@ fn folded(bits: u32, x: u64) -> u64
     x ^ (x >> bits)
 }
 
-// The number that is drawn as this state is reached.
+// The number that is drawn when this state is reached.
 fn mixed(state: u64) -> u64
     ensures { result ≡ spec.mixed state }
 {
@@ -82,7 +82,7 @@ fn width(a: i128, b: i128) -> u128
     sum(difference(b, a), 1).unsigned_abs()
 }
 
-/// The first numbers from one seed are those that splitmix64 is known by.
+/// The first numbers from one seed are the known first numbers of splitmix64.
 pub fn known_numbers_are_drawn()
     ensures { spec.KnownNumbers }
 {}

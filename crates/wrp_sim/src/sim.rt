@@ -58,8 +58,8 @@ fn no_ticks(alloc: Global, count: usize) -> Result<Vec<Tau>, AllocError>
 }
 
 impl Sim {
-    /// A simulator of the network that this scenario is of, before any event; its numbers are drawn from
-    /// the seed.
+    /// A simulator of the network that this scenario belongs to, before any event; its numbers are drawn
+    /// from the seed.
     pub fn new(alloc: Global, scene: Scene, seed: u64) -> Result<Sim, AllocError>
         ensures is { IfOk result (λ sim. SimIs (new_sim scene seed) sim) }
         ensures scene { IfOk result (λ sim. sim.scene ≡ scene) }
@@ -80,11 +80,12 @@ impl Sim {
         })
     }
 
-    /// The next event: the first rule that applies. `None` exactly where the scenario's time has passed
-    /// and no event is due.
+    /// The next event: the first rule that applies. `None` if and only if the scenario's time has
+    /// passed and no event is due.
     ///
-    /// The world is of the network of the scenario, and the events of this simulator made it, where a
-    /// `Deliver` may be left out and other ones, and `Noise`, may come between.
+    /// The world belongs to the network of the scenario, and the events of this simulator made it,
+    /// except that a `Deliver` may be left out, and that other `Deliver` events, and `Noise`, may come
+    /// in between.
     pub fn next<F: Fn(i64) -> i64>(&mut self, world: &World<F>) -> Option<Event>
         requires valid { IsValid F.pre F.post world.now }
         requires fits { FitsSim world.now.plant.net.cfg self.old }
@@ -101,9 +102,9 @@ impl Sim {
         }
     }
 
-    /// The same, put into the place of another event, which is gone then: a place that is used again and
-    /// again spares making one for each event. Answers whether there is an event; where there is none, the
-    /// place holds nothing of use.
+    /// The same, put into the place of another event, which is then gone: with one place that is used
+    /// again and again, no new event has to be made each time. Answers whether there is an event; if there
+    /// is none, the place holds nothing of use.
     pub fn next_into<F: Fn(i64) -> i64>(&mut self, world: &World<F>, event: &mut Event) -> bool
         requires valid { IsValid F.pre F.post world.now }
         requires fits { FitsSim world.now.plant.net.cfg self.old }

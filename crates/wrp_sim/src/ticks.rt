@@ -14,14 +14,14 @@ const NEVER: Tau = 1 << 126;
 pub struct Soonest {
     /// The moment.
     pub since: Tau,
-    /// Of the times, none from the moment on is before this one.
+    /// None of the times from the moment on is before this one.
     pub best: Tau,
-    /// Where it is among them, if it is.
+    /// Its place among them, if it is one of them.
     pub place: usize,
 }
 
 /// When each node ticks next, in true time. The first of these times is kept, so that no search is needed to
-/// know that no node ticks now, and which one ticks next.
+/// know that no node ticks now, and which node ticks next.
 #[derive(Drop)]
 pub struct Ticks {
     times: Vec<Tau>,
@@ -77,7 +77,7 @@ fn is_ahead(it: Soonest, now: Tau) -> bool
     it.since <= now && now < it.best
 }
 
-// The first time with its place, where it is there.
+// The first time with its place, if it is there.
 fn at_place(times: &[Tau], it: Soonest) -> Option<(usize, Tau)>
     ensures { IfSome result (λ next. (next.1 ≡ it.best) × (slice_get times.now next.0 ≡ Some next.1)) }
 {
@@ -126,7 +126,7 @@ impl Ticks {
         is_ahead(self.soonest, now)
     }
 
-    /// The first time after now, with its node, where it is known.
+    /// The first time after now, with its node, if it is known.
     pub fn next(&self, now: Tau) -> Option<(usize, Tau)>
         ensures { IfSome result (λ next. IsNext now self.now next.0 next.1) }
     {

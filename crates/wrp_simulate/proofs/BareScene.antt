@@ -1,4 +1,4 @@
--- What a line of a scenario says does not see the unused room of names.
+-- What a line of a scenario says does not depend on the unused room of names.
 use Rattle.std.proofs.Common.{◌≡◌, ◌∙◌, refl, ap, ℕ, pos, Bool, if◌then◌else◌, Option, None, Some, Result, Ok, List, [], ◌∷◌, map}
 use Rattle.std.specs.Prelude.{is_none}
 use Rattle.wrp_network.specs.declared.configuration.NetCfg.{NetCfg}

@@ -1,4 +1,4 @@
--- What a simulation does and writes does not see the unused room of names.
+-- What a simulation does and writes does not depend on the unused room of names.
 use Rattle.std.proofs.Common.{◌≡◌, ◌∙◌, refl, ap, ap₂, sym, subst, ℕ, ℤ, pos, ◌+◌, ◌-◌, ◌-ℤ◌, ◌+ℤ◌, ◌&&◌, if◌then◌else◌, Option, None, Some, List, [], ◌∷◌, ◌++◌, length, map, flat_map, option_map}
 use Rattle.std.specs.Prelude.{filter, find, nat_lt, option_and_then}
 use Rattle.std.specs.Option.{option_map_or}
@@ -244,7 +244,7 @@ sum_bare s events = λ i n.
 sums_bare : (s : Setting) (events : List Happened) → sum_lines (bare_setting s) events ≡ sum_lines s events
 sums_bare s events = λ i. flat_map (sum_bare s events i) (nodes_bare s i)
 
--- What is due
+-- What is expected
 
 pub refuses_bare : (s : Setting) (lines : List (List ℕ)) (line last : List ℕ) (refusal : Refusal) → SimRefuses s lines line refusal last
     → SimRefuses (bare_setting s) lines line refusal last

@@ -34,7 +34,7 @@ use Rattle.wrp_course.specs.WorldAt.{FrameAt, Sending, WorldAt, has_carrier, is_
 
 -- What each rule gives
 
--- but for the number of a frame
+-- except the number of a frame
 abbrev pub FitsSave : Event → Type 0
 FitsSave (Arrive i raw) = Unit {0}
 FitsSave (Deliver i) = Unit {0}
@@ -155,7 +155,7 @@ given_fits scene s w old new e g = subst FitsIf (sym g.next) (next_fits scene s 
 
 -- The numbers of frames
 
--- at most so many frames departed, and none has a greater number
+-- at most this many frames departed, and none has a greater number
 pub record AreNumbered (n : ℕ) (w : WorldAt) : Type 0 where
   pub departed : w.departed ≤ n
   pub frames : (i : ℕ) → IfSome (w.frame i) (λ (f : FrameAt). i ≤ n)
@@ -261,7 +261,7 @@ event_fits s w says (Join l ms sm) n h few accepted fits = fits
 pub fewer : (h : Happened) (before : List Happened) → length (h ∷ before) < 2 ^ 32 → length before < 2 ^ 32
 fewer h before few = omega (arith, few)
 
--- so it is with each event that is made
+-- this holds for each event that is made
 pub made_fit : (scene : SceneAt) (s : Setting) (seed : ℕ) (events : List Happened) (at : SimAt) → IsSimRun scene s seed events at → AllAccepted s events
     → length events < 2 ^ 32 → AllFit events
 made_fit scene s seed [] at run accepted few = tt

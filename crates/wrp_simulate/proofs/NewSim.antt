@@ -1,4 +1,4 @@
--- A network that is simulated: before its first event, and behind each that it took.
+-- A network that is simulated: before its first event, and after each event that it took.
 use Rattle.std.proofs.Common.{◌≡◌, ◌∙◌, ap, sym, subst, ℤ, List, Option, map}
 use Rattle.wrp_network.specs.Network.{node_count}
 use Rattle.wrp_config.specs.declared.network.Network.{Network}
@@ -25,7 +25,7 @@ new_runs {pre = pre} {post = post} net laws network fit valid has is bounds = re
   bounds = subst (λ (k : Network). AreBounds k.cfg network.bounds.items) (sym is) bounds;
 }
 
--- behind an event it can take another
+-- after an event it can take another
 pub run_stays : {F : Type 0} {pre : F → ℤ → Type 0} {post : F → ℤ → ℤ → Type 0} (held now : SimulatedNetwork F) → CanRun pre post held
     → IsValid pre post now.world → now.world.plant.net ≡ held.world.plant.net
     → now.bounds.items ≡ held.bounds.items

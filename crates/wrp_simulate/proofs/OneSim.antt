@@ -1,4 +1,4 @@
--- A scenario and a seed are one run of a network: the same events come, and the same is written.
+-- A scenario and a seed give one run of a network: the same events come, and the same is written.
 use Rattle.std.proofs.Common.{◌≡◌, ◌∙◌, refl, ap, ap₂, sym, subst, ℕ, ℤ, ◌+◌, ◌<◌, ◌≤◌, Bool, true, false, None, Some, List, [], ◌∷◌, ◌++◌, length, flat_map, arith}
 use Rattle.std.proofs.lemmas.Bool.Decides.{nat_tests}
 use Rattle.std.specs.Prelude.{nat_lt}
@@ -29,7 +29,7 @@ use Rattle.wrp_records.proofs.Unique.{EndsWith, IsExact}
 
 -- Runs
 
--- what is told of the events of a run
+-- what is given for the events of a run
 pub record Told (s : Setting) (events : List Happened) : Type 0 where
   pub said : AllSaid events
   pub answered : IsAnswered (answers_in s) s (world_after s events)
@@ -98,7 +98,7 @@ sums_one last s a b same t u =
 
 -- How far a run goes
 
--- the first so many events of a longer run, and what comes behind them
+-- the first so many events of a longer run, and what comes after them
 record Shorter (scene : SceneAt) (s : Setting) (seed size : ℕ) : Type 0 where
   events : List Happened
   at : SimAt
@@ -138,7 +138,7 @@ not_longer last scene s seed a b x y p t over q u less =
     (gives_one scene s (world_after s a) (world_after s part.events) x None (Some part.next) alike over
     (subst (λ (o : SimAt). Gives scene s (world_after s part.events) o (Some part.next)) (sym one.at) part.comes))
 
--- of two runs neither is longer
+-- neither of two runs is longer
 same_size : (m n : ℕ) → (m < n → ⊥) → (n < m → ⊥) → m ≡ n
 same_size m n p q = go (nat_lt m n) (nat_lt n m) refl refl
   where
@@ -155,7 +155,7 @@ same_size m n p q = go (nat_lt m n) (nat_lt n m) refl refl
 told_of : (s : Setting) (scene : SceneAt) (seed : ℕ) (events : List Happened) (at : SimAt) → IsSimulated s scene seed events at → Told s events
 told_of s scene seed events at h = record { said = h.said; answered = h.answered }
 
--- a run of one scenario as a run of another that is the same
+-- a run of one scenario as a run of another scenario that is the same
 moved_run : (s : Setting) (seed : ℕ) (lines : List (List ℕ)) (p q : Simulates s seed lines) → IsSimRun p.scene s seed q.events q.at
 moved_run s seed lines p q =
     subst (λ (n : SceneAt). IsSimRun n s seed q.events q.at) (scenes_one s.cfg (new_scene s.cfg) lines q.scene p.scene q.said p.said) q.simulated.run
@@ -169,7 +169,7 @@ never_longer last s seed lines p q over less =
     not_longer last p.scene s seed p.events q.events p.at q.at p.simulated.run (told_at s seed lines p) over (moved_run s seed lines p q)
     (told_at s seed lines q) less
 
--- runs of one length
+-- runs of the same length
 record Both (s : Setting) (seed : ℕ) (lines : List (List ℕ)) (p q : Simulates s seed lines) : Type 0 where
   text : sim_lines s p.events ≡ sim_lines s q.events
   sums : sum_lines s p.events ≡ sum_lines s q.events
@@ -188,7 +188,7 @@ both_of last s seed lines p q size =
       at = one.at;
     }
 
--- of one length it is not both over and overrun
+-- with one length it is not both over and overrun
 not_both_ends : ToldLast → (s : Setting) (seed : ℕ) (lines : List (List ℕ)) (p q : Simulates s seed lines) → IsOver s seed lines p → Overruns s seed lines q → ⊥
 not_both_ends last s seed lines p q over run = go (nat_lt (length p.events) (length q.events)) refl
   where

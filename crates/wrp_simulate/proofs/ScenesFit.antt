@@ -173,6 +173,6 @@ changes_fit : (cfg : NetCfg) (scene last : SceneAt) (lines : List (List ℕ)) �
 changes_fit cfg scene last [] is same = subst (IsSceneOf cfg) (sym same) is
 changes_fit cfg scene last (line ∷ lines) is c = changes_fit cfg c.0 last lines (line_fits cfg scene c.0 line is c.1) c.2
 
--- a scenario that lines say is one of its network
+-- a scenario that lines say belongs to its network
 pub scenario_fits : (s : Setting) (lines : List (List ℕ)) (scene : SceneAt) → IsScenario s lines scene → IsSceneOf s.cfg scene
 scenario_fits s lines scene said = changes_fit s.cfg (new_scene s.cfg) scene lines (scenes.new_is_scene s.cfg) said

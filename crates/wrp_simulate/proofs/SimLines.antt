@@ -1,4 +1,4 @@
--- The lines of a simulation as they are written, and what its track lines tell.
+-- The lines of a simulation as they are written, and what its track lines show.
 use Rattle.std.proofs.Common.{◌≡◌, ◌∙◌, refl, ap, sym, subst, append_assoc, append-nil, ℕ, ℤ, pos, zero, suc, ◌==◌, ◌+◌, ◌-◌, ◌<◌, ◌≤◌, true, false, if◌then◌else◌, Some, List, [], ◌∷◌, ◌++◌, length, map, flat_map, take, get_or, arith}
 use Rattle.std.specs.Prelude.{filter, fold, max, min, slice_get, slice_set, unsigned_abs}
 use Rattle.std.proofs.lemmas.Bool.Decides.{nat_tests}
@@ -62,7 +62,7 @@ sum_text post s w world n node ticks state name bound total offs text old stands
     let bound_is : bound ≡ pos (path_of s.cfg n) = bounded ∙ ap (λ (cfg : NetCfg). pos (path_of cfg n)) stands.plant.cfg in
     wrote ∙ (λ i. old ++ sum_line_of (name_is i) (ticks_are i) (tells.tracks i) (tells.worst i) (bound_is i) (state_is i))
 
--- The sums of the nodes from one on are lacking
+-- The sums of the nodes from one on are still missing
 
 abbrev sum_at : Setting → WorldAt → (ℕ → List ℤ) → ℕ → List ℕ
 sum_at s w offs n = sum_by s w n (offs n)
@@ -106,7 +106,7 @@ fold_max (n ∷ ns) a b = ap (λ (k : ℕ). fold max k ns) (max_of a b n) ∙ fo
 max_first : (n : ℕ) → max 0 n ≡ max n 0
 max_first n = omega arith
 
--- one more
+-- one more track line
 pub total_more : (offs : List ℤ) (off : ℤ) (total next : Total) → IsTotal offs total → next.tracks ≡ min (total.tracks + 1) 18_446_744_073_709_551_615
     → next.worst ≡ max total.worst (unsigned_abs off) → IsTotal (off ∷ offs) next
 total_more offs off total next tells tracks worst =
@@ -137,7 +137,7 @@ filter-append (x ∷ xs) ys =
       | false ↦ λ is. simp is (filter-append xs ys)
     ] refl
 
--- those that are told of the first so many of some outputs, and of one more
+-- the total over the first so many of some outputs, and over one more
 abbrev pub Counted : ℤ → List Output → ℕ → Total → Total → Type 0
 Counted off outs i before now = (offs : List ℤ) → IsTotal offs before → IsTotal (map (λ (o : Output). off) (filter is_track (take i outs)) ++ offs) now
 
@@ -176,7 +176,7 @@ counted_all off outs i before now is so_far offs tells =
 
 -- The totals of all nodes
 
--- what a step put out, where it is of this node
+-- what a step put out, if it is a step of this node
 abbrev own_outs : ℕ → NodeStepAt → List Output
 own_outs n step = if step.node == n then step.outs else []
 
@@ -193,7 +193,7 @@ offsets_snoc w n steps st =
     ∙ map-append (λ (o : Output). (w.clock n).off) (filter is_track (outs_of n steps)) (filter is_track (own_outs n st))
     ∙ same_swap (w.clock n).off (filter is_track (outs_of n steps)) (filter is_track (own_outs n st))
 
--- a list of which one place is written anew
+-- a list in which one place is written again
 each_set : {A : Type 0} (P Q : ℕ → A → Type 0) (xs : List A) (i : ℕ) (v : A) → ((n : ℕ) (x : A) → P n x → (n ≡ i → ⊥) → Q n x) → Q i v → Each P xs
     → Each Q (slice_set xs i v)
 each_set P Q [] i v keep here all n x is = absurd (cc)
@@ -203,7 +203,7 @@ each_set P Q (y ∷ ys) (suc i) v keep here all zero x is = keep 0 x (all 0 x is
 each_set P Q (y ∷ ys) (suc i) v keep here all (suc n) x is =
     each_set (λ m. P (suc m)) (λ m. Q (suc m)) ys i v (λ m z p other. keep (suc m) z p (λ e. other (omega (arith, e)))) here (λ m z e. all (suc m) z e) n x is
 
--- the totals with what the first so many steps tell
+-- the totals with what the first so many steps add
 abbrev pub AddsTo : WorldAt → List NodeOut → ℕ → List Total → List Total → Type 0
 AddsTo w outs i before now = (offs : ℕ → List ℤ) → AreTotals offs before → AreTotals (λ n. offsets_in w n (map step_seen (take i outs)) ++ offs n) now
 
@@ -262,7 +262,7 @@ adds_at w outs i out k off lent before now old total is so_far got place true_of
     (adds_more w outs i out before now old total is so_far (subst (λ (n : ℕ). slice_get now n ≡ Some old) here found)
     (λ offs tells. subst (λ (l : List ℤ). IsTotal l total) (λ j. map (λ (o : Output). own j) (filter is_track (all j)) ++ offs) (more offs tells)))
 
--- each of these steps is of a node
+-- each of these steps belongs to a node
 pub node_within : (count : ℕ) (outs : List NodeOut) (i : ℕ) (out : NodeOut) → AllByRecursion (λ (o : NodeOut). o.node < count) outs → i < length outs
     → out ≡ get_or outs i out → out.node < count
 node_within count [] i out all is got = absurd (omega (arith, is))

@@ -1,5 +1,5 @@
--- A simulation as it goes on: each event that comes is accepted, and makes the run longer by one; and what stands where it
--- ends.
+-- A simulation as it goes on: each event that comes is accepted, and makes the run longer by one; and what the
+-- output is when it ends.
 use Rattle.std.proofs.Common.{◌≡◌, ◌⊎◌, ◌∙◌, inl, inr, refl, ap, ap₂, sym, subst, append_assoc, append-nil, ℕ, ℤ, pos, ◌+◌, ◌<◌, Bool, true, false, Option, None, Some, Result, Err, List, [], ◌∷◌, ◌++◌, length, map, flat_map, take, arith}
 use Rattle.std.specs.Io.KnownBytes.{Appends}
 use Rattle.std.proofs.KnownBytes.{Appends-nil, Appends-trans}
@@ -90,14 +90,14 @@ comes_by keeps s scene seed events at event sim stays (Some next) net fits run g
       accepted = λ says. subst (λ (e : Event). Accepts s (world_after s events) says e) (sym gave.0) (whole says).accepted.0;
     }
 
--- the scenario of a run is one of its network
+-- the scenario of a run belongs to its network
 scene_of : {F : Type 0} {post : F → ℤ → ℤ → Type 0} (seed : ℕ) (s : Setting) (scene : SceneAt) (network : SimulatedNetwork F) (course : Course)
     (events : List Happened) (at : SimAt)
     → HasRun post seed s scene network course events at → FitsSim network.world.plant.net.cfg course.sim → IsSceneOf s.cfg scene
 scene_of seed s scene network course events at h fits =
     subst (IsSceneOf s.cfg) h.is_scene (subst (λ (c : NetCfg). IsSceneOf c course.sim.scene) h.stands.plant.cfg fits.scene)
 
--- what the simulator answered, told of the scenario
+-- what the simulator answered, by the scenario
 gave_of : {F : Type 0} {post : F → ℤ → ℤ → Type 0} (seed : ℕ) (s : Setting) (scene : SceneAt) (network : SimulatedNetwork F) (course : Course)
     (events : List Happened) (at : SimAt) (sim : State) (event : Option Event)
     → HasRun post seed s scene network course events at → FollowsRules post network.world course.sim sim event
@@ -257,13 +257,13 @@ writes_on seed s scene network course before mid now waiting left so_far (inr al
 
 -- Ends
 
--- what closes the lines that say more closes those that say less
+-- what closes the lines with a wider condition also closes the lines with a narrower one
 pub closed_by : (L : LineMeaning) (T U : List (List ℕ) → Type 0) (status : Status) (before now : Option (List ℕ))
     → ((lines : List (List ℕ)) → T lines → U lines) → Closed U L status before now → Closed T L status before now
 closed_by L T U status before now means (inl memory) = inl memory
 closed_by L T U status before now means (inr how) = inr (how.0, how.1, λ lines says. how.2 lines (means lines says), how.3)
 
--- where there is no memory the lines of the first events stand
+-- if memory runs out, the lines of the first events are written
 pub without_memory : {F : Type 0} {post : F → ℤ → ℤ → Type 0} (seed : ℕ) (s : Setting) (scene : SceneAt) (network : SimulatedNetwork F) (course : Course)
     (before now : Option (List ℕ)) (waiting : List ℕ)
     → Running post seed s scene network course before now waiting → Closed (λ lines. IsScenario s lines scene) (simulation_of s seed) OutOfMemory before now
@@ -274,7 +274,7 @@ without_memory seed s scene network course before now waiting r = inr (
   inl (refl, r.wrote),
 )
 
--- where the sink failed a part of the lines of the events so far
+-- if the sink failed, a part of the lines of the events so far is written
 pub unwritten : {F : Type 0} {post : F → ℤ → ℤ → Type 0} (seed : ℕ) (s : Setting) (scene : SceneAt) (network : SimulatedNetwork F) (course : Course)
     (before mid now : Option (List ℕ)) (waiting : List ℕ)
     → Running post seed s scene network course before mid waiting → AppendsPart mid now waiting
@@ -286,7 +286,7 @@ unwritten seed s scene network course before mid now waiting r part = inr (
   finishes_after OutOfMemory WriteFault before mid now r.written waiting r.wrote (inr (refl, part)),
 )
 
--- where no event comes any more the lines that sum up stand too
+-- if no event comes any more, the lines that sum up are also written
 pub over_closed : {F : Type 0} {post : F → ℤ → ℤ → Type 0} (seed : ℕ) (s : Setting) (scene : SceneAt) (network : SimulatedNetwork F) (course : Course)
     (before mid now : Option (List ℕ)) (waiting : List ℕ) (status : Status)
     → (r : Running post seed s scene network course before mid waiting) → Gives scene s (world_after s r.events) r.at None
@@ -306,7 +306,7 @@ over_closed seed s scene network course before mid now waiting status r over (in
   finishes_after Done status before mid now r.written (waiting ++ sum_lines s r.events) r.wrote ends,
 )
 
--- where an event has too great a number the line that names it does
+-- if an event has too great a number, the line that names it is also written
 pub large_closed : {F : Type 0} {post : F → ℤ → ℤ → Type 0} (seed : ℕ) (s : Setting) (scene : SceneAt) (network : SimulatedNetwork F) (course : Course)
     (before mid now : Option (List ℕ)) (waiting : List ℕ) (status : Status)
     → (r : Running post seed s scene network course before mid waiting) → (comes : Next) → Gives scene s (world_after s r.events) r.at (Some comes)
@@ -328,7 +328,7 @@ large_closed seed s scene network course before mid now waiting status r comes g
   finishes_after TooLarge status before mid now r.written (waiting ++ large_line event_limit) r.wrote ends,
 )
 
--- before the first event there is no memory
+-- memory runs out before the first event
 pub nothing_run : (s : Setting) (scene : SceneAt) (seed : ℕ) (held : Option (List ℕ))
     → Closed (λ lines. IsScenario s lines scene) (simulation_of s seed) OutOfMemory held held
 nothing_run s scene seed held = inr (

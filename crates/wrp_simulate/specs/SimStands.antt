@@ -35,7 +35,7 @@ use Rattle.wrp_simulate.specs.SimText.{count_of, is_printed, printed_lines, sim_
 
 -- The run
 
--- what the track lines at these true offsets tell
+-- what the track lines at these true offsets show
 pub record IsTotal (offs : List ℤ) (total : Total) : Type 0 where
   pub tracks : total.tracks ≡ count_of offs
   pub worst : total.worst ≡ worst_of offs
@@ -44,7 +44,7 @@ pub record IsTotal (offs : List ℤ) (total : Total) : Type 0 where
 abbrev pub AreTotals : (ℕ → List ℤ) → List Total → Type 0
 AreTotals offs totals = Each (λ n. IsTotal (offs n)) totals
 
--- the lines that sum up a run to a world, by such true offsets
+-- the lines that sum up a run to a world, by these true offsets
 abbrev pub sums_by : Setting → WorldAt → (ℕ → List ℤ) → List ℕ
 sums_by s w offs = flat_map (λ n. sum_by s w n (offs n)) (nodes_of s)
 
@@ -54,16 +54,16 @@ abbrev pub printed_by : List ℕ → ℕ → ℤ → ℤ → Output → List ℕ
 printed_by name ticks bound off o =
     if is_printed o then output_line_of name ticks o bound (Some off) else []
 
--- it can take an event: its world is one that its calls made, the law of each node is that of the link
--- above it, and the nodes' bounds are at hand
+-- it can take an event: its world was made by calls of the world, the law of each node is the law of
+-- the link above it, and the nodes' bounds are at hand
 pub record CanRun {F : Type 0} (pre : F → ℤ → Type 0) (post : F → ℤ → ℤ → Type 0)
     (network : SimulatedNetwork F) : Type 0 where
   pub valid : IsValid pre post network.world
   pub laws : HasLawOf post (setting_in network.world.plant.net) network.world
   pub bounds : AreBounds network.world.plant.net.cfg network.bounds.items
 
--- what makes the events of this network: its scenario is one of it, each node has its total, and the
--- events are counted
+-- what makes the events of this network: its scenario belongs to the network, each node has its
+-- total, and the events are counted
 pub record FitsCourse {F : Type 0} (network : SimulatedNetwork F) (course : Course) : Type 0 where
   pub sim : FitsSim network.world.plant.net.cfg course.sim
   pub totals : length course.totals.items ≡ node_count network.world.plant.net.cfg
@@ -81,13 +81,13 @@ pub record HasRun {F : Type 0} (post : F → ℤ → ℤ → Type 0) (seed : ℕ
   pub totals : AreTotals (λ n. tracked s n events) course.totals.items
   pub count : course.events ≡ length events
 
--- some did
+-- some events did
 abbrev pub IsInRun : {F : Type 0} → (F → ℤ → ℤ → Type 0) → SimulatedNetwork F → Course → Type 0
 IsInRun post network course =
     (seed : ℕ) × (s : Setting) × (scene : SceneAt) × (events : List Happened) × (at : SimAt)
     × HasRun post seed s scene network course events at
 
--- none has come yet
+-- no event has come yet
 abbrev pub Begins : {F : Type 0} → (F → ℤ → ℤ → Type 0) → ℕ → Setting → SceneAt → SimulatedNetwork F
     → Course → Type 0
 Begins post seed s scene network course =
@@ -102,14 +102,15 @@ pub record RunsOn {F : Type 0} (post : F → ℤ → ℤ → Type 0) (seed : ℕ
   pub wrote :
       new ≡ old ++ flat_map (printed_lines s (world_after s (newest ∷ events))) (steps_at s events newest)
 
--- the network stays as it is, and nothing is written
+-- the network is unchanged, and nothing is written
 pub record RunStops {F : Type 0} (post : F → ℤ → ℤ → Type 0) (s : Setting) (network : SimulatedNetwork F)
     (course : Course) (events : List Happened) (old new : List ℕ) : Type 0 where
   pub stands : StandsFor post s (world_after s events) network.world
   pub totals : AreTotals (λ n. tracked s n events) course.totals.items
   pub none : new ≡ old
 
--- what became of a step of a run: an event came, none comes any more, or one whose number is too great
+-- what became of a step of a run: an event came, no event comes any more, or the number of the next
+-- event is too great
 abbrev pub Steps : {F : Type 0} → (F → ℤ → ℤ → Type 0) → ℕ → Setting → SceneAt → SimulatedNetwork F → Course
     → List ℕ → List ℕ → List Happened → SimAt → Stepped → Type 0
 Steps post seed s scene network course old new events at stepped.Event =
@@ -121,8 +122,8 @@ Steps post seed s scene network course old new events at stepped.TooLarge =
     × (comes : Next) × Gives scene s (world_after s events) at (Some comes)
     × (length events + 1 ≡ event_limit)
 
--- what closes a run to a world is written behind what waits, or a part of that; or there is no memory for
--- it
+-- what closes a run to a world is written after what waits, or a part of that is written; or memory runs
+-- out
 abbrev pub ClosesRun : Setting → WorldAt → (ℕ → List ℤ) → Status → Option (List ℕ) → Option (List ℕ)
     → List ℕ → Type 0
 ClosesRun s w offs status before now waiting =

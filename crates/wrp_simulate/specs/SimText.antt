@@ -1,4 +1,4 @@
--- What the simulation of a network writes: the lines of its nodes' steps of some kinds, and at the end one
+-- What the simulation of a network writes: lines of some kinds for its nodes' steps, and at the end one
 -- line for each node, which sums up its run (this project's profile).
 use Rattle.std.specs.Prelude.{ℕ, ℤ, ◌==◌, Bool, true, false, if◌then◌else◌, min, Some, List, [], ◌∷◌, ◌++◌, filter, length, map, unsigned_abs}
 use Rattle.std.specs.List.{flat_map}
@@ -23,19 +23,19 @@ is_printed (Step cycles) = true
 is_printed (Dac value) = false
 is_printed (Report report) = true
 
--- the line of an output that a node put out in an event that left this world, if it has one: its tick
--- count there, and how far its clock is there from true time
+-- the line of an output that a node put out in an event that led to this world, if it has one: its
+-- tick count there, and how far its clock is there from true time
 abbrev pub printed_line : Setting → WorldAt → ℕ → Output → List ℕ
 printed_line s w n o =
     if is_printed o
     then output_line s.cfg n (w.node n).ticks o (Some (w.clock n).off)
     else []
 
--- those of a step of a node
+-- the lines of a step of a node
 abbrev pub printed_lines : Setting → WorldAt → NodeStepAt → List ℕ
 printed_lines s w step = flat_map (printed_line s w step.node) step.outs
 
--- those of all events
+-- the lines of all events
 abbrev pub sim_lines : Setting → List Happened → List ℕ
 sim_lines s [] = []
 sim_lines s (h ∷ before) =
@@ -53,21 +53,22 @@ is_track _ = false
 abbrev pub outs_of : ℕ → List NodeStepAt → List Output
 outs_of n steps = flat_map (λ (step : NodeStepAt). if step.node == n then step.outs else []) steps
 
--- how far a node's clock is from true time at each of its track lines in an event that left this world
+-- how far a node's clock is from true time at each of its track lines in an event that led to this
+-- world
 abbrev pub offsets_in : WorldAt → ℕ → List NodeStepAt → List ℤ
 offsets_in w n steps = map (λ o. (w.clock n).off) (filter is_track (outs_of n steps))
 
--- those in all events
+-- the same in all events
 abbrev pub tracked : Setting → ℕ → List Happened → List ℤ
 tracked s n [] = []
 tracked s n (h ∷ before) =
     offsets_in (world_after s (h ∷ before)) n (steps_at s before h) ++ tracked s n before
 
--- how many these are; the count stands still at 2^64 - 1
+-- how many these are; the count stops at 2^64 - 1
 abbrev pub count_of : List ℤ → ℕ
 count_of offs = min (length offs) 18_446_744_073_709_551_615
 
--- the greatest distance of one of them from 0; 0 where there is none
+-- the greatest distance of one of them from 0; 0 if there is none
 abbrev pub worst_of : List ℤ → ℕ
 worst_of offs = greatest (map unsigned_abs offs)
 
@@ -77,7 +78,7 @@ abbrev pub sum_by : Setting → WorldAt → ℕ → List ℤ → List ℕ
 sum_by s w n offs =
     sum_line s.cfg n (w.node n).ticks (count_of offs) (worst_of offs) (state_of (node_setting_of s n) (w.node n))
 
--- those of all nodes, over all events
+-- these lines of all nodes, over all events
 abbrev pub node_sum : Setting → List Happened → ℕ → List ℕ
 node_sum s events n = sum_by s (world_after s events) n (tracked s n events)
 

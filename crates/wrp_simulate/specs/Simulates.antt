@@ -1,5 +1,5 @@
 -- What the record lines of a simulation mean: the scenario that they say, and after them what the network
--- writes as it runs by it from a seed (this project's profile).
+-- writes as it runs by that scenario from a seed (this project's profile).
 use Rattle.std.specs.Prelude.{◌≡◌, ℕ, ◌+◌, ◌<◌, None, Some, List, ◌++◌, length}
 use Rattle.wrp_sim.specs.Rules.{Next}
 use Rattle.wrp_scene.specs.Scenario.{SceneAt}
@@ -35,11 +35,11 @@ pub record Simulates (s : Setting) (seed : ℕ) (lines : List (List ℕ)) : Type
   pub at : SimAt
   pub simulated : IsSimulated s scene seed events at
 
--- no event comes behind it
+-- no event comes after it
 abbrev pub IsOver : (s : Setting) (seed : ℕ) (lines : List (List ℕ)) → Simulates s seed lines → Type 0
 IsOver s seed lines run = Gives run.scene s (world_after s run.events) run.at None
 
--- an event comes behind it whose number is too great
+-- an event comes after it whose number is too great
 pub record Overruns (s : Setting) (seed : ℕ) (lines : List (List ℕ)) (run : Simulates s seed lines)
     : Type 0 where
   pub next : Next
@@ -55,8 +55,8 @@ SimCloses s seed lines last =
     (run : Simulates s seed lines) × IsOver s seed lines run
     × (last ≡ sim_lines s run.events ++ sum_lines s run.events)
 
--- or an event has too great a number, and its line stands behind those of all before it; or memory
--- lacks, and the lines of the first events stand
+-- or an event has too great a number, and its line follows the lines of all events before it; or
+-- memory runs out, and the lines of the first events are written
 abbrev pub SimBreaks : Setting → ℕ → List (List ℕ) → Status → List ℕ → Type 0
 SimBreaks s seed lines TooLarge last =
     (run : Simulates s seed lines) × Overruns s seed lines run

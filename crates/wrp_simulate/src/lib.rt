@@ -1,5 +1,5 @@
-//! The simulation of a network: the record lines say a scenario, the network runs by it to its end, and what its nodes put out is
-//! written, with what sums it up. Lines are this project's profile.
+//! The simulation of a network: the record lines say a scenario, the network runs by it to its end, and what its
+//! nodes put out is written, with lines that sum it up. Lines are this project's profile.
 #![tactic(auto)]
 
 mod laws;

@@ -1,4 +1,4 @@
-//! The command `simulate`: behind its scenario the network runs, and its lines are written as they come.
+//! The command `simulate`: after its scenario the network runs, and its lines are written as they come.
 ghost use Rattle.std.specs.Prelude.{◌≡◌, ◌⊎◌, ◌+◌, ◌++◌, [], ℕ, ℤ, List, IfOk, OnOk, true, false};
 ghost use Rattle.std.specs.Io.KnownBytes.{Appends, Consumes, IsAtEnd};
 ghost use Rattle.wrp_config.specs.Accepted.{IsAccepted};
@@ -32,7 +32,7 @@ use wrp_scene::{LAST_EVENT, Scene};
 use wrp_scene_records::{ScenarioLines, overrun, write_waiting};
 use wrp_sim::simulator_keeps_the_bounds;
 
-// From how many octets on those that wait are written, behind an event.
+// How many octets have to wait before they are written after an event.
 const PIECE: usize = 65_536;
 
 /// What became of a step of a run.
@@ -40,9 +40,9 @@ const PIECE: usize = 65_536;
 pub enum Stepped {
     /// An event came.
     Event,
-    /// None comes any more.
+    /// No event comes any more.
     Over,
-    /// The next has too great a number.
+    /// The next event has too great a number.
     TooLarge,
 }
 
@@ -79,7 +79,7 @@ fn step<F: Fn(i64) -> i64>(
     Ok(Stepped::Event)
 }
 
-// Writes what waits, where it is much. Answers whether all that was written was taken.
+// Writes what waits, if it is long enough. Answers whether all that was written was taken.
 fn flush<K: Sink>(sink: &mut K, text: &mut Vec<u8>) -> bool
     ensures whole { result ≡ true
         → ((text.new.items ≡ text.old.items) × (K.held sink.new ≡ K.held sink.old))

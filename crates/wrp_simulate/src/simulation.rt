@@ -40,8 +40,8 @@ pub struct SimulatedNetwork<F> {
     pub outs: Vec<NodeOut>,
 }
 
-/// What makes the events of a network, the place where the newest is, how many came, and what its track
-/// lines tell so far.
+/// What makes the events of a network, the place for the newest event, how many events came, and what
+/// its track lines show so far.
 #[derive(Drop)]
 pub struct Course {
     pub sim: Sim,
@@ -51,8 +51,7 @@ pub struct Course {
 }
 
 impl Course {
-    /// Before the first event of a network. `AllocError` where there is no memory for it: nothing
-    /// is made.
+    /// Before the first event of a network. `AllocError` if memory runs out: nothing is made.
     pub fn new(alloc: Global, net: &Network, scene: Scene, seed: u64) -> Result<Course, AllocError>
         requires { IsSceneOf net.now.cfg scene }
         ensures fits { IfOk result (λ course. FitsSim net.now.cfg course.sim) }
@@ -75,7 +74,7 @@ impl Course {
 
 impl<F: Fn(i64) -> i64> SimulatedNetwork<F> {
     /// A network before its first event, with the laws of the links above its nodes. `AllocError`
-    /// where there is no memory for it: no network is made.
+    /// if memory runs out: no network is made.
     pub fn new(
         alloc: Global,
         net: Network,
@@ -98,8 +97,8 @@ impl<F: Fn(i64) -> i64> SimulatedNetwork<F> {
         })
     }
 
-    /// Takes an event that keeps all premises, and appends what its steps write. `AllocError` where
-    /// there is no memory: then nothing is known of `text`, nor whether the event was taken.
+    /// Takes an event that keeps all premises, and appends what its steps write. `AllocError` if
+    /// memory runs out: then nothing is known of `text`, nor of whether the event was taken.
     pub fn happen(
         &mut self,
         alloc: Global,
@@ -136,8 +135,8 @@ impl<F: Fn(i64) -> i64> SimulatedNetwork<F> {
         append_steps(alloc, &self.world, &self.bounds, &self.outs, text)
     }
 
-    /// Appends the lines that sum up the runs of the nodes, by their totals. `AllocError` where
-    /// there is no memory: then nothing is known of `text`.
+    /// Appends the lines that sum up the runs of the nodes, by their totals. `AllocError` if memory
+    /// runs out: then nothing is known of `text`.
     pub fn append_sums(&self, totals: &[Total], text: &mut Vec<u8>) -> Result<(), AllocError>
         requires ready { CanRun F.pre F.post self.now }
         requires count { length totals.now ≡ node_count self.now.world.plant.net.cfg }
@@ -149,7 +148,7 @@ impl<F: Fn(i64) -> i64> SimulatedNetwork<F> {
     }
 }
 
-// Appends what these steps write in an event that left this world.
+// Appends what these steps write in an event that led to this world.
 fn append_steps<F: Fn(i64) -> i64>(
     alloc: Global,
     world: &World<F>,
@@ -170,7 +169,7 @@ fn append_steps<F: Fn(i64) -> i64>(
     Ok(())
 }
 
-// Appends the lines of what a node put out in an event that left this world.
+// Appends the lines of what a node put out in an event that led to this world.
 fn append_printed<F: Fn(i64) -> i64>(
     alloc: Global,
     world: &World<F>,
@@ -204,7 +203,7 @@ fn is_printed(out: &Output) -> bool
     }
 }
 
-// Appends the lines of those of a node's outputs that have one, with its true offset.
+// Appends the lines of those of a node's outputs that have a line, with its true offset.
 fn append_outputs(
     alloc: Global,
     name: &str,

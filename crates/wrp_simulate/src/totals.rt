@@ -1,4 +1,4 @@
-//! What the track lines of each node of a simulation tell.
+//! What the track lines of each node of a simulation show.
 ghost use Rattle.std.specs.Prelude.{◌≡◌, ◌<◌, ◌++◌, ◌∷◌, [], ℕ, ℤ, List, IfOk, filter, length, map};
 ghost use Rattle.std.specs.List.{AllByRecursion};
 ghost use Rattle.wrp_network.specs.Network.{node_count};
@@ -15,7 +15,7 @@ use wrp_base::Tau;
 use wrp_node::{Output, Report};
 use wrp_world::{NodeOut, World};
 
-/// What the track lines of a node tell.
+/// What the track lines of a node show.
 #[derive(Clone, Copy)]
 pub struct Total {
     /// How many there are.
@@ -25,7 +25,7 @@ pub struct Total {
 }
 
 impl Total {
-    /// Before any.
+    /// Before any track line.
     pub fn new() -> Total
         ensures { IsTotal [] result }
     {
@@ -35,7 +35,7 @@ impl Total {
         }
     }
 
-    // With one more, at this true offset.
+    // With one more track line, at this true offset.
     fn with(self, off: Tau) -> Total
         ensures { (offs : List ℤ) → IsTotal offs self → IsTotal (off ∷ offs) result }
     {
@@ -45,7 +45,7 @@ impl Total {
         }
     }
 
-    // With those among these outputs, at this true offset.
+    // With the track lines among these outputs, at this true offset.
     fn with_all(self, off: Tau, outs: &[Output]) -> Total
         ensures { (offs : List ℤ) → IsTotal offs self
             → IsTotal (map (λ o. off) (filter is_track outs.now) ++ offs) result }
@@ -70,7 +70,7 @@ fn is_track(out: &Output) -> bool
     }
 }
 
-/// Those of so many nodes, before any line. `AllocError` where there is no memory for them.
+/// The totals of so many nodes, before any line. `AllocError` if memory runs out.
 pub fn no_totals(alloc: Global, count: u8) -> Result<Vec<Total>, AllocError>
     ensures count { IfOk result (λ totals. length totals.items ≡ count) }
     ensures each { IfOk result (λ totals. AreTotals (λ n. []) totals.items) }
@@ -82,7 +82,7 @@ pub fn no_totals(alloc: Global, count: u8) -> Result<Vec<Total>, AllocError>
     Ok(totals)
 }
 
-/// Adds the track lines among what these steps put out in an event that left this world.
+/// Adds the track lines among what these steps put out in an event that led to this world.
 pub fn add_tracks<F: Fn(i64) -> i64>(world: &World<F>, outs: &[NodeOut], totals: &mut Vec<Total>)
     requires valid { IsValid F.pre F.post world.now }
     requires nodes { AllByRecursion (λ (out : NodeOut).

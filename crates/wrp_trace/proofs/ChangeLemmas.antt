@@ -17,7 +17,8 @@ swapped n = omega arith
 both : (a b : ℕ) → a ≡ b + 1 → 1 + a ≡ (1 + b) + 1
 both a b e = omega (arith, e)
 
--- where nothing was said of one, and something is, it is said of one more
+-- if nothing was said of a node or link, and something is said of it now, something is said of one
+-- more
 pub one_more : {X : Type 0} (said : List (Option X)) (n : ℕ) (x : X) → n < length said → is_said said n ≡ false
     → count_said (slice_set said n (Some x)) ≡ count_said said + 1
 one_more [] n x below new = absurd (omega arith)
@@ -27,17 +28,17 @@ one_more (None ∷ said) (suc n) x below new = one_more said n x (omega arith) n
 one_more (Some y ∷ said) (suc n) x below new =
     both (count_said (slice_set said n (Some x))) (count_said said) (one_more said n x (omega arith) new)
 
--- nothing said fits
+-- if nothing is said, it fits
 pub nothing_fits : {X Y : Type 0} (P : X → Type 0) (ys : List Y) → AllByRecursion (Fits P) (map (λ y. None) ys)
 nothing_fits P [] = tt
 nothing_fits P (y ∷ ys) = (tt, nothing_fits P ys)
 
--- nothing is said of none
+-- if nothing is said of any, the count is 0
 pub of_none : (X : Type 0) {Y : Type 0} (ys : List Y) → count_said {X = X} (map (λ y. None) ys) ≡ 0
 of_none X [] = refl
 of_none X (y ∷ ys) = of_none X ys
 
--- what is said of one more node or link is said of one more
+-- with a new drift or move, something is said of one more node or link
 pub one_more_drift : (said : SaidAt) (n : ℕ) (drift : ℤ) → n < length said.drifts → is_said said.drifts n ≡ false
     → said_count (with_drift said n drift) ≡ said_count said + 1
 one_more_drift said n drift below new = omega (arith, one_more said.drifts n drift below new)
@@ -69,7 +70,7 @@ move_fits cfg said l move is fits = record {
   move = set_fits IsMove said.moves l move is fits.move;
 }
 
--- nothing said fits a network, and is said of none
+-- saying nothing fits a network, and its count is 0
 pub nothing_is_said : (cfg : NetCfg) → IsSaid cfg (nothing_said cfg)
 nothing_is_said cfg = record {
   nodes = length-map cfg.nodes.items (λ node. None);
@@ -81,7 +82,7 @@ nothing_is_said cfg = record {
 pub none_said : (cfg : NetCfg) → said_count (nothing_said cfg) ≡ 0
 none_said cfg = omega (arith, of_none ℤ cfg.nodes.items, of_none (ℤ × ℤ) cfg.links.items)
 
--- something is said of at most all
+-- something is said of no more than there are
 few_said : {X : Type 0} (said : List (Option X)) → count_said said ≤ length said
 few_said [] = omega arith
 few_said (None ∷ said) = omega (arith, few_said said)
@@ -92,7 +93,7 @@ few said nodes links = omega (arith, nodes, links, few_said said.drifts, few_sai
 
 -- Fields in turn
 
--- the field of a place, and those behind it
+-- the field of a place, and the fields after it
 pub field_here : (fields : List (List ℕ)) (at place : ℕ) (text : List ℕ) → place ≡ at + 1 → text ≡ field_of place fields
     → get_or fields at [] ≡ text
 field_here fields at place text here is =
@@ -108,13 +109,13 @@ step cfg fields at place said text answer below here is e =
     ∙ ap (λ r. r >>= (λ more. changes_said cfg (at + 1 + 1) more (drop (at + 1) fields)))
     (ap₂ (λ p t. change_said cfg p said t) (sym here) (field_here fields at place text here is) ∙ sym e)
 
--- a field that says nothing is the fault of all
+-- a field that says nothing is the fault of all fields
 pub stops : (cfg : NetCfg) (fields : List (List ℕ)) (at place : ℕ) (said : SaidAt) (text : List ℕ) (fault : TraceFault)
     → at < length fields → place ≡ at + 1 → text ≡ field_of place fields → Err fault ≡ change_said cfg place said text
     → changes_said cfg (at + 1) said (drop at fields) ≡ Err fault
 stops cfg fields at place said text fault below here is e = step cfg fields at place said text (Err fault) below here is e
 
--- and behind one that says something the others say the rest
+-- after a field that says something, the other fields say the rest
 pub goes : (cfg : NetCfg) (fields : List (List ℕ)) (at place : ℕ) (said more : SaidAt) (text : List ℕ)
     → at < length fields → place ≡ at + 1 → text ≡ field_of place fields → Ok more ≡ change_said cfg place said text
     → changes_said cfg (at + 1) said (drop at fields) ≡ changes_said cfg (at + 1 + 1) more (drop (at + 1) fields)

@@ -25,7 +25,7 @@ long_in text (Ok octets) e long =
     let more : 256 < length octets = omega arith in
     rw (lt-leb (length octets) 256 more) refl
 
--- a text of more than twice 256 digits is no hex of a frame
+-- a text of more than twice 256 digits is not the hex of a frame
 pub too_long : (text : List ℕ) → 256 < length text / 2 → frame_of text ≡ None
 too_long text long = long_in text (decode_of text) refl long
 
@@ -35,7 +35,7 @@ half_of n m size = omega arith
 differs : (n m : ℕ) → (n / 2 == 8) ≡ false → n ≡ 2 * m → (m == 8) ≡ false
 differs n m e size = subst (λ (k : ℕ). (k == 8) ≡ false) (half_of n m size) e
 
--- octets of another number than eight
+-- a number of octets other than eight
 of_few : (octets : List ℕ) (b : Bool) → (length octets == 8) ≡ false →
     option_and_then (λ (octets : List ℕ). if length octets == 8 then Some (big_number 8 octets) else None) (if b then Some octets else None) ≡ None
 of_few octets true e = ap (λ (b : Bool). if b then Some (big_number 8 octets) else None) e
@@ -58,7 +58,7 @@ sized_in text false eight (Err fault) e whole err = refl
 sized_in text false true (Ok octets) e whole err = absurd (let f : false ≡ true = err in cc)
 sized_in text false false (Ok octets) e whole err = of_size text octets e (decode_of-ok text octets whole).2
 
--- a text for which eight octets are no room, or whose digits are none, is no BITS
+-- a text that does not fit in eight octets, or that has something other than digits, is no BITS
 pub not_eight : (text : List ℕ) → is_err (decode_sized text 8) ≡ true → bits_of text ≡ None
 not_eight text err = sized_in text (length text % 2 == 1) (length text / 2 == 8) (decode_pairs 0 text) refl refl err
 

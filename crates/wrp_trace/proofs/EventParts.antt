@@ -13,7 +13,7 @@ use Rattle.wrp_caldb.specs.Name.{is_letter, is_name_octet, is_name}
 use Rattle.wrp_trace.specs.EventFields.{before, behind}
 use Rattle.wrp_trace.proofs.Texts.{is_text_octet, IsText, text_octet}
 
--- an octet of a part: it may stand in a field, and is no `/`, `:` or `=`
+-- an octet of a part: it may appear in a field, and is not `/`, `:` or `=`
 abbrev pub is_part_octet : ℕ → Bool
 is_part_octet octet =
     not (octet == 47) && (not (octet == 58) && (not (octet == 61) && is_text_octet octet))
@@ -75,7 +75,7 @@ name_part (c ∷ cs) is =
     let rest = and_parts (list_all is_name_octet cs) (nat_le (length cs) 15) both.1 in
     and_from (is_part_octet c) (list_all is_part_octet cs) (letter_part c both.0) (names_part cs rest.0)
 
--- parts and what stands between them may stand in a field
+-- parts and what separates them may appear in a field
 pub part_text : (text : List ℕ) → IsPart text → IsText text
 part_text [] is = refl
 part_text (c ∷ cs) is =
@@ -90,7 +90,7 @@ both_text text c rest a b d =
     list_all-append is_text_octet text (c ∷ rest)
     ∙ and_from (list_all is_text_octet text) (list_all is_text_octet (c ∷ rest)) a (and_from (is_text_octet c) (list_all is_text_octet rest) b d)
 
--- a part without an octet
+-- a part that lacks this octet
 abbrev pub Lacks : ℕ → List ℕ → Type 0
 Lacks octet text = list_all (λ c. not (c == octet)) text ≡ true
 
@@ -129,7 +129,7 @@ one_longer : (text : List ℕ) (octet : ℕ) → length (text ++ octet ∷ []) �
 one_longer [] octet = refl
 one_longer (c ∷ cs) octet = omega (arith, one_longer cs octet)
 
--- the parts round the first such octet
+-- the parts before and after the first such octet
 pub before_part : (octet : ℕ) (text rest : List ℕ) → Lacks octet text → before octet (text ++ octet ∷ rest) ≡ text
 before_part octet text rest is = rw (first_at octet text rest is) (take_at text (octet ∷ rest) (length text) refl)
 

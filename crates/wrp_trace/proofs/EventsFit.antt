@@ -1,4 +1,4 @@
--- What a line says can come to its network.
+-- What a line says can happen in its network.
 use Rattle.std.proofs.Common.{◌≡◌, ℕ, ℤ, pos, negsuc, ◌+◌, ◌<◌, ◌≤◌, ◌^◌, ◌%◌, ◌≤ℤ◌, ◌==◌, ◌&&◌, Bool, true, false, if◌then◌else◌, List, [], ◌∷◌, ◌++◌, length, drop, Option, None, Some, Result, Ok, Err, refl, ap, subst, arith}
 use Rattle.std.specs.Prelude.{int_le, nat_lt, ok_or, option_map, option_and_then, unsigned_abs}
 use Rattle.std.specs.List.{list_any, position, position_or_len}

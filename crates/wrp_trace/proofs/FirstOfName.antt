@@ -1,5 +1,5 @@
--- The first listed module, in file order, whose name has certain values has them by its own entries, since it is the first of
--- its name.
+-- The first listed module, in file order, whose name has certain values has them by its own entries, because it is
+-- the first one with its name.
 use Rattle.std.proofs.Common.{◌≡◌, ◌∙◌, ◌⊎◌, ◌&&◌, inl, inr, ℕ, List, [], ◌∷◌, Bool, true, false, Option, None, Some, refl, ap, subst, sym}
 use Rattle.std.specs.Prelude.{option_and_then, if◌then◌else◌}
 use Rattle.std.specs.List.{find}
@@ -9,14 +9,14 @@ use Rattle.wrp_base.specs.declared.link.Module.{Module}
 use Rattle.wrp_caldb.specs.Database.{Database, ModuleAt, delays_at, module_at}
 use Rattle.wrp_caldb.specs.Name.{same_name}
 
--- a name finds among these modules what it finds among all, or the test fails on what it finds
+-- a name finds among these modules what it finds among all, or what it finds fails the test
 abbrev Follow : Database → (tx rx : ℕ) → (test : Option Module → Bool) → List ModuleAt → Type 0
 Follow db tx rx test rest =
     (name : List ℕ) →
     (find (λ m. same_name m.name name) db.modules ≡ find (λ m. same_name m.name name) rest)
     ⊎ (test (module_at db name tx rx) ≡ false)
 
--- where the test passes on what the first module's name finds, the name finds this module
+-- if what the first module's name finds passes the test, the name finds this module
 own_passes : (db : Database) (tx rx : ℕ) (test : Option Module → Bool) (m : ModuleAt) (rest : List ModuleAt) → Follow db tx rx test (m ∷ rest)
     → test (module_at db m.name tx rx) ≡ true → test (delays_at m.entries tx rx) ≡ true
 own_passes db tx rx test m rest follow is = elim (follow m.name) [
@@ -27,7 +27,7 @@ own_passes db tx rx test m rest follow is = elim (follow m.name) [
   | inr fails ↦ absurd (false≢true (sym fails ∙ is))
 ]
 
--- where it fails, the others follow
+-- if it fails the test, the others follow
 others_follow : (db : Database) (tx rx : ℕ) (test : Option Module → Bool) (m : ModuleAt) (rest : List ModuleAt) → Follow db tx rx test (m ∷ rest)
     → test (module_at db m.name tx rx) ≡ false → Follow db tx rx test rest
 others_follow db tx rx test m rest follow fails = λ name. elim (follow name) [
@@ -65,14 +65,14 @@ first_is_own : (db : Database) (tx rx : ℕ) (test : Option Module → Bool)
     → find (λ m. test (delays_at m.entries tx rx) && test (module_at db m.name tx rx)) db.modules ≡ find (λ m. test (module_at db m.name tx rx)) db.modules
 first_is_own db tx rx test = first_among db tx rx test db.modules (λ name. inl refl)
 
--- so it is for a pair of wavelengths that is known
+-- so this holds for a pair of wavelengths that is known
 pub found_by_entries : (db : Database) (test : Option Module → Bool) (tx rx : ℕ) (pair : Option (ℕ × ℕ)) → pair ≡ Some (tx, rx)
     → find (λ m. test (delays_at m.entries tx rx) && test (module_at db m.name tx rx)) db.modules
     ≡ find (λ m. test (option_and_then (λ p. module_at db m.name p.0 p.1) pair)) db.modules
 found_by_entries db test tx rx pair is =
     first_is_own db tx rx test ∙ ap (λ (o : Option (ℕ × ℕ)). find (λ m. test (option_and_then (λ p. module_at db m.name p.0 p.1) o)) db.modules) (sym is)
 
--- and where there is no pair, none is found
+-- and if there is no pair, none is found
 none_in : (modules : List ModuleAt) (b : Bool) → b ≡ false → find (λ m. b) modules ≡ None
 none_in [] b fails = refl
 none_in (m ∷ rest) b fails = ap (λ (passes : Bool). if passes then Some m else find (λ n. b) rest) fails ∙ none_in rest b fails

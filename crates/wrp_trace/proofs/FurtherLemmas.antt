@@ -1,4 +1,4 @@
--- Texts behind commas, one after another.
+-- Texts after commas, one after another.
 use Rattle.std.proofs.Common.{◌≡◌, ◌∙◌, ℕ, ℤ, ◌+◌, ◌<◌, List, [], ◌∷◌, ◌++◌, Bool, true, false, length, map, drop, get_or, refl, sym, ap, ap₂, arith}
 use Rattle.std.specs.Prelude.{codes, ◌==◌, ◌&&◌, unsigned_abs, if◌then◌else◌}
 use Rattle.std.specs.Fmt.{signed_decimal}
@@ -10,7 +10,7 @@ use Rattle.wrp_course.specs.declared.event.Swap.{Swap}
 use Rattle.wrp_trace.specs.Printing.{joined}
 use Rattle.wrp_trace.specs.EventPrinting.{further, drift_words, drift_text, drift_piece, drift_texts, move_words, move_text, move_piece, move_texts, swap_text, pass_texts}
 
--- joined texts are the first one and the others behind commas
+-- joined texts are the first one, and the others after commas
 pub joined_further : (text : List ℕ) (texts : List (List ℕ)) → joined (text ∷ texts) ≡ text ++ further texts
 joined_further text [] = sym (append-nil text)
 joined_further text (next ∷ texts) = ap (λ l. text ++ 44 ∷ l) (joined_further next texts)
@@ -20,7 +20,7 @@ further_more [] more = refl
 further_more (text ∷ some) more =
     ap (λ l. (44 ∷ text) ++ l) (further_more some more) ∙ sym (append_assoc (44 ∷ text) (further some) (further more))
 
--- a text behind a comma, or none
+-- a text after a comma, or no text
 one_piece : (b : Bool) (text : List ℕ) → further (if b then [] else text ∷ []) ≡ (if b then [] else 44 ∷ text)
 one_piece true text = refl
 one_piece false text = append-nil (44 ∷ text)

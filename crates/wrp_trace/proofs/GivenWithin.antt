@@ -1,4 +1,4 @@
--- The inputs that an event gives are of nodes of the network.
+-- The inputs that an event gives are for nodes of the network.
 use Rattle.std.proofs.Common.{◌≡◌, refl, ℕ, ℤ, ◌<◌, Bool, true, false, if◌then◌else◌, List, [], ◌∷◌, flat_map, Option, None, Some, option_map, Result}
 use Rattle.std.specs.List.{AllByRecursion}
 use Rattle.std.specs.Option.{option_map_or}

@@ -1,4 +1,4 @@
--- A module that is listed at a port is printed by a name that finds it again.
+-- A module that is listed for a port is printed with a name that finds it again.
 use Rattle.std.proofs.Common.{◌≡◌, ℕ, zero, suc, ◌&&◌, List, [], ◌∷◌, Bool, true, false, Option, None, Some, cond, refl, sym, ap, subst, ◌∙◌}
 use Rattle.std.specs.Prelude.{◌==◌, not, slice_get, unwrap_or, option_map, option_and_then, codes}
 use Rattle.std.specs.List.{find}
@@ -12,7 +12,7 @@ use Rattle.wrp_config.specs.Names.{pair_at}
 use Rattle.wrp_trace.specs.InputAt.{IsListed}
 use Rattle.wrp_trace.specs.LineSetting.{LineSetting, module_of, named_at, same_module, has_values, name_of}
 
--- what is found passes the test, and stands in the list
+-- what is found passes the test, and is in the list
 pub record IsFound {X : Type 0} (p : X → Bool) (xs : List X) (x : X) : Type 0 where
   pub passes : p x ≡ true
   pub place : ℕ
@@ -32,7 +32,7 @@ pub found : {X : Type 0} (p : X → Bool) (xs : List X) (x : X) → find p xs �
 found p [] x e = cc e
 found p (y ∷ ys) x e = found_in p y ys x (p y) refl (found p ys) e
 
--- where one passes the test, one is found
+-- if one passes the test, one is found
 finds_in : {X : Type 0} (p : X → Bool) (y : X) (ys : List X) (b : Bool) → p y ≡ b
     → (p y ≡ false → (z : X) × (find p ys ≡ Some z)) → (z : X) × (cond b (Some y) (find p ys) ≡ Some z)
 finds_in p y ys true is more = (y, refl)
@@ -48,7 +48,7 @@ finds p (y ∷ ys) (suc k) x e is = finds_in p y ys (p y) refl (λ no. finds p y
 
 -- Modules
 
--- modules of equal values are one
+-- modules with equal values are the same
 one_module : (a b : Module) → same_module a b ≡ true → a ≡ b
 one_module a b same =
     let tx = and_parts (a.tx == b.tx) ((a.rx == b.rx) && ((a.transition == b.transition) && (a.err == b.err))) same in
@@ -70,7 +70,7 @@ values_are : (values : Module) (entry : Option Module) → has_values values ent
 values_are values None is = cc is
 values_are values (Some entry) is = ap (λ m. Some m) (one_module entry values is)
 
--- a name with an entry is that of a listed module
+-- a name with an entry is the name of a listed module
 pub record IsNamed (db : Database) (name : List ℕ) : Type 0 where
   pub listed : ModuleAt
   pub place : ℕ
@@ -94,7 +94,8 @@ named_at_pair db name values (Some p) is =
 named : (site : LineSetting) (port : ℕ) (name : List ℕ) (values : Module) → module_of site port name ≡ Some values → IsNamed site.db name
 named site port name values is = named_at_pair site.db name values (pair_at site.cfg site.node port) is
 
--- the name by which values are printed at a port: one that may be listed, and has them there
+-- the name with which values are printed at a port: one that may be listed, and has these values
+-- there
 pub record IsPrintedName (site : LineSetting) (port : ℕ) (values : Module) (name : List ℕ) : Type 0 where
   pub printed : name_of site port values ≡ Some name
   pub valid : is_module_name name ≡ true

@@ -25,6 +25,6 @@ cases : (text : List ℕ) (b : Bool) → is_name text ≡ b → (IsUtf8 text →
 cases text false e never = refl
 cases text true e never = absurd (never (IsUtf8-from_ascii text (ascii text (name_text text e))))
 
--- octets that are no text are no name
+-- octets that are not a text are not a name
 pub no_utf8_no_name : (text : List ℕ) → (IsUtf8 text → ⊥) → (if is_name text then Some text else None) ≡ None
 no_utf8_no_name text never = cases text (is_name text) refl never

@@ -16,7 +16,7 @@ use Rattle.wrp_config.specs.Accepted.{HasNames}
 use Rattle.wrp_config.specs.Names.{node_named, link_named}
 use Rattle.wrp_config.proofs.Lists.{map_at}
 
--- where none passes none is found
+-- if none passes the test, none is found
 none_is : {X : Type 0} (p : X → Bool) (xs : List X) → ((i : ℕ) (y : X) → slice_get xs i ≡ Some y → p y ≡ false) → position p xs ≡ None
 none_is p [] all = refl
 none_is p (d ∷ ds) all =

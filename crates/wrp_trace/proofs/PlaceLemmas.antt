@@ -26,7 +26,7 @@ use Rattle.wrp_trace.proofs.EventsFit.{both, ok_same, pass_fits, within}
 
 -- One mark
 
--- what is said of one that is marked, and of one that is not
+-- something is said of the one that is marked, and nothing of the one that is not
 pub is_said_in : {X : Type 0} (marks : List Bool) (changes : List X) (n : ℕ) → n < length marks → n < length changes
     → is_said (said_in marks changes) n ≡ is_marked marks n
 is_said_in [] changes n below within = absurd (omega (arith, below))
@@ -36,7 +36,7 @@ is_said_in (false ∷ marks) (x ∷ changes) zero below within = refl
 is_said_in (mark ∷ marks) (x ∷ changes) (suc n) below within =
     is_said_in marks changes n (omega (arith, below)) (omega (arith, within))
 
--- with a mark and its change this is said besides
+-- with a mark and its change, this is also said
 pub says_more : {X : Type 0} (marks : List Bool) (changes : List X) (n : ℕ) (x : X) → n < length marks → n < length changes
     → said_in (slice_set marks n true) (slice_set changes n x) ≡ slice_set (said_in marks changes) n (Some x)
 says_more [] changes n x below within = absurd (omega (arith, below))
@@ -48,7 +48,7 @@ says_more (mark ∷ marks) (y ∷ changes) (suc n) x below within =
 marked : {X : Type 0} (x rest : X) → true ≡ false → x ≡ rest
 marked x rest e = absurd (cc)
 
--- and the others rest as they did
+-- and the others rest as before
 pub rests_marked : {X : Type 0} (rest : X) (marks : List Bool) (changes : List X) (n : ℕ) (x : X) → RestsAt rest marks changes
     → RestsAt rest (slice_set marks n true) (slice_set changes n x)
 rests_marked rest [] changes n x h = tt
@@ -57,7 +57,7 @@ rests_marked rest (mark ∷ marks) [] (suc n) x h = tt
 rests_marked rest (mark ∷ marks) (y ∷ changes) zero x h = (marked x rest, h.1)
 rests_marked rest (mark ∷ marks) (y ∷ changes) (suc n) x h = (h.0, rests_marked rest marks changes n x h.1)
 
--- without a mark, and with the change of rest, so it is too
+-- without a mark, and with the change of rest, the others also rest as before
 pub rests_cleared : {X : Type 0} (rest : X) (marks : List Bool) (changes : List X) (n : ℕ) → RestsAt rest marks changes
     → RestsAt rest (slice_set marks n false) (slice_set changes n rest)
 rests_cleared rest [] changes n h = tt
@@ -89,7 +89,7 @@ none_at_all [] n all h = tt
 none_at_all (mark ∷ marks) zero all h = absurd (omega (arith, all))
 none_at_all (mark ∷ marks) (suc n) all h = (h.0, none_at_all marks n (omega (arith, all)) h.1)
 
--- where none is marked nothing is said
+-- if none is marked, nothing is said
 pub nothing_in : {X Y : Type 0} (marks : List Bool) (changes : List X) (ys : List Y) → NoneMarked marks → length marks ≡ length ys → length changes ≡ length ys
     → said_in marks changes ≡ map (λ y. None) ys
 nothing_in [] changes [] none e f = refl
@@ -236,7 +236,7 @@ change_counts cfg place marks drifts moves more text h e =
     (λ k is. subst (λ c. k < c) (sym (fibres_said cfg marks drifts moves h)) (within (λ (link : LinkCfg). same_name link.name.bytes (before 61 text)) cfg.links.items k is))
     (sym e)
 
--- and of at most all
+-- and something is said of no more than there are
 pub few_by : (cfg : NetCfg) (marks : Marks) (drifts : List ℤ) (moves : List (ℤ × ℤ)) → Holds cfg marks drifts moves → node_count cfg ≤ 64 → link_count cfg ≤ 63
     → said_count (said_by marks drifts moves) ≤ 127
 few_by cfg marks drifts moves h nodes links =
@@ -244,7 +244,7 @@ few_by cfg marks drifts moves h nodes links =
 
 -- The `pass`
 
--- the changes are those of all that is said
+-- the changes are the changes of all that is said
 all_in : {X : Type 0} (rest : X) (marks : List Bool) (changes : List X) → length marks ≡ length changes → RestsAt rest marks changes
     → changes ≡ map (λ o. unwrap_or o rest) (said_in marks changes)
 all_in rest [] [] e h = refl
@@ -284,7 +284,7 @@ as_pass (events.Up node off swaps) is = absurd is
 as_pass (events.Cut link) is = absurd is
 as_pass (events.Join link ms sm) is = absurd is
 
--- what a `pass` says that was read in place
+-- what a `pass` that was read in place says
 pub pass_read : (cfg : NetCfg) (fields : List (List ℕ)) (marks : Marks) (e : Event) (answer : Result (Unit {0}) TraceFault)
     → IsPassing cfg marks e → Ok (span_in e) ≡ span_at 2 fields
     → outcome answer (said_by marks (drifts_in e) (moves_in e)) ≡ changes_said cfg 3 (nothing_said cfg) (drop 2 fields)
@@ -293,7 +293,7 @@ pass_read cfg fields marks e answer passing span said =
     ap (told_in answer) (as_pass e passing.pass)
     ∙ passes_in cfg fields (span_in e) marks (record { items = drifts_in e }) (record { items = moves_in e }) answer passing.holds span said
 
--- and it can come to the network
+-- and it can happen in the network
 pub pass_comes : (cfg : NetCfg) (fields : List (List ℕ)) (marks : Marks) (e : Event) (answer : Result (Unit {0}) TraceFault) (u : Unit {0})
     → IsPassing cfg marks e → told_in answer e ≡ pass_of cfg fields → answer ≡ Ok u → IsEventOf cfg e
 pass_comes cfg fields marks e answer u passing told ok =
@@ -302,7 +302,7 @@ pass_comes cfg fields marks e answer u passing told ok =
     sym told ∙ ap (λ (r : Result (Unit {0}) TraceFault). told_in r e) ok ∙ ap (λ x. as_read (bare x)) is in
     subst (IsEventOf cfg) (sym is) (pass_fits cfg fields (events.Pass (span_in e) (record { items = drifts_in e }) (record { items = moves_in e })) own)
 
--- Only the drifts, or only the moves, became others
+-- Only the drifts, or only the moves, changed
 
 pub drifts_again : (a b c : Event) → OnlyDrifts a b → OnlyDrifts b c → OnlyDrifts a c
 drifts_again a b c h k = record { moves = k.moves ∙ h.moves; span = k.span ∙ h.span; pass = λ is. k.pass (h.pass is) }
@@ -354,7 +354,7 @@ put_fibres old new before after l k m move e f rest only nodes apart marks chang
 
 -- Fields in place
 
--- what is said with one said besides, by whether something is said of it
+-- what is said, with one change more, by whether something is already said of it
 abbrev once_by : {X : Type 0} → ℕ → List (Option X) → ℕ → Bool → Option X → Result (List (Option X)) TraceFault
 once_by place said n b change = (if b then Err (Name place) else number_or_fault place change) >>= (λ x. Ok (slice_set said n (Some x)))
 
@@ -364,28 +364,28 @@ as_list said = Ok said
 abbrev as_fault : {X : Type 0} → TraceFault → Result (List (Option X)) TraceFault
 as_fault fault = Err fault
 
--- a mark that is there
+-- a mark that is already set
 pub twice_in : {X : Type 0} (marks lent : List Bool) (changes : List X) (place n : ℕ) (change : Option X) (b : Bool) (fault : TraceFault) → n < length marks → n < length changes
     → lent ≡ marks → b ≡ is_marked lent n → b ≡ true → fault ≡ Name place → Err fault ≡ said_also place (said_in marks changes) n change
 twice_in marks lent changes place n change b fault below inside same is marked_so names =
     let there = is_said_in marks changes n below inside ∙ ap (λ l. is_marked l n) (sym same) ∙ sym is ∙ marked_so in
     ap as_fault names ∙ sym (ap (λ t. once_by place (said_in marks changes) n t change) there)
 
--- one that is not, and a change
+-- a mark that is not set, and a change
 pub once_in : {X : Type 0} (marks lent : List Bool) (changes : List X) (new : List (Option X)) (place n : ℕ) (change : Option X) (x : X) (b : Bool) → n < length marks → n < length changes
     → lent ≡ marks → b ≡ is_marked lent n → b ≡ false → change ≡ Some x → new ≡ slice_set (said_in marks changes) n (Some x) → Ok new ≡ said_also place (said_in marks changes) n change
 once_in marks lent changes new place n change x b below inside same is unmarked reads put =
     let there = is_said_in marks changes n below inside ∙ ap (λ l. is_marked l n) (sym same) ∙ sym is ∙ unmarked in
     ap as_list put ∙ sym (ap₂ (λ t o. once_by place (said_in marks changes) n t o) there reads)
 
--- one that is not, and no change
+-- a mark that is not set, and no change
 pub none_in : {X : Type 0} (marks lent : List Bool) (changes : List X) (place n : ℕ) (change : Option X) (b : Bool) (fault : TraceFault) → n < length marks → n < length changes
     → lent ≡ marks → b ≡ is_marked lent n → b ≡ false → change ≡ None → fault ≡ Number place → Err fault ≡ said_also place (said_in marks changes) n change
 none_in marks lent changes place n change b fault below inside same is unmarked reads names =
     let there = is_said_in marks changes n below inside ∙ ap (λ l. is_marked l n) (sym same) ∙ sym is ∙ unmarked in
     ap as_fault names ∙ sym (ap₂ (λ t o. once_by place (said_in marks changes) n t o) there reads)
 
--- where all was forgotten nothing is said
+-- if all was forgotten, nothing is said
 pub forgot : (cfg : NetCfg) (old : Marks) (was middle now : Event) (nodes links : List Bool) → IsPassing cfg old was
     → NoneMarked nodes → length nodes ≡ length old.nodes.items → length (drifts_in middle) ≡ length (drifts_in was) → OnlyDrifts was middle
     → NoneMarked links → length links ≡ length old.links.items → length (moves_in now) ≡ length (moves_in middle) → OnlyMoves middle now

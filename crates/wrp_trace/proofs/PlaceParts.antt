@@ -5,7 +5,7 @@ use Rattle.wrp_course.specs.declared.event.Event.{Event}
 use Rattle.wrp_course.specs.declared.event.Event.TheVariants as events
 use Rattle.wrp_trace.specs.Places.{AsPass, drifts_in, moves_in}
 
--- it is none
+-- it is not a `pass`
 abbrev pub IsOther : Event → Type 0
 IsOther e = (dt : ℤ) (drifts : Items ℤ) (moves : Items (ℤ × ℤ)) → e ≡ events.Pass dt drifts moves → ⊥
 

@@ -1,4 +1,4 @@
--- What a place has after a reading into it is what was read.
+-- After a reading into a place, the place has what was read.
 use Rattle.std.proofs.Common.{◌≡◌, Result, Ok, Err, ap, sym, ◌∙◌}
 use Rattle.wrp_base.specs.declared.fault.TraceFault.{TraceFault}
 use Rattle.wrp_trace.specs.Inputs.{IsReadInto}

@@ -23,7 +23,7 @@ own_plain : (place : ℕ) (swaps : List Swap) (read : Result ℕ TraceFault) (ne
 own_plain place swaps (Ok port) next = ap (λ b. name_or_fault place (if b then None else Some port) >>= next) (any_plain port swaps)
 own_plain place swaps (Err fault) next = refl
 
--- whether a port is new is told by the ports alone
+-- whether a port is new depends on the ports alone
 pub said_plain : (place : ℕ) (swaps : List Swap) (text : List ℕ) → swap_said place (map bare_swap swaps) text ≡ swap_said place swaps text
 said_plain place swaps text =
     own_plain place swaps (number_or_fault place (natural_in 0 65_535 (before 58 text))) (λ port. swap_at_port place port (behind 58 text))
@@ -37,13 +37,13 @@ step fields at place swaps text answer below here is e =
     ∙ ap (λ r. r >>= (λ swap. swaps_said (at + 1 + 1) (map bare_swap swaps ++ swap ∷ []) (drop (at + 1) fields)))
     (ap₂ (λ p t. swap_said p (map bare_swap swaps) t) (sym here) (field_here fields at place text here is) ∙ said_plain place swaps text ∙ sym e)
 
--- a field that says nothing is the fault of all
+-- a field that says nothing is the fault of all fields
 pub stops : (fields : List (List ℕ)) (at place : ℕ) (swaps : List Swap) (text : List ℕ) (fault : TraceFault)
     → at < length fields → place ≡ at + 1 → text ≡ field_of place fields → Err fault ≡ swap_said place swaps text
     → swaps_said (at + 1) (map bare_swap swaps) (drop at fields) ≡ Err fault
 stops fields at place swaps text fault below here is e = step fields at place swaps text (Err fault) below here is e
 
--- and behind one that says something the others say the rest
+-- after a field that says something, the other fields say the rest
 pub goes : (fields : List (List ℕ)) (at place : ℕ) (swaps : List Swap) (swap : Swap) (text : List ℕ)
     → at < length fields → place ≡ at + 1 → text ≡ field_of place fields → Ok (bare_swap swap) ≡ swap_said place swaps text
     → swaps_said (at + 1) (map bare_swap swaps) (drop at fields) ≡ swaps_said (at + 1 + 1) (map bare_swap (swaps ++ swap ∷ [])) (drop (at + 1) fields)
@@ -66,7 +66,7 @@ each_more : (swaps : List Swap) (swap : Swap) → AllByRecursion IsSwap swaps �
 each_more [] swap all is = (is, tt)
 each_more (s ∷ swaps) swap all is = (all.0, each_more swaps swap all.1 is)
 
--- one more swap, of a port that none before has
+-- one more swap, of a port that no earlier swap has
 pub more_swaps : (swaps : List Swap) (swap : Swap) → AreSwaps swaps → IsSwap swap
     → list_any (λ other. other.port == swap.port) swaps ≡ false → AreSwaps (swaps ++ swap ∷ [])
 more_swaps swaps swap are is new = record {

@@ -1,4 +1,4 @@
--- Texts that may stand in a field, and the lines that they make.
+-- Texts that may appear in a field, and the lines that they make.
 use Rattle.std.proofs.Common.{◌≡◌, ℕ, suc, ◌<◌, ◌≤◌, ◌/◌, ◌%◌, ◌^◌, ◌&&◌, ◌||◌, not, ◌⊎◌, List, [], ◌∷◌, Bool, true, false, length, refl, ap, ◌∙◌, inl, inr, arith}
 use Rattle.std.specs.Prelude.{◌==◌, nat_le, slice_index, slice_index_or}
 use Rattle.std.specs.List.{list_all, join_with_byte, All}
@@ -17,11 +17,11 @@ use Rattle.wrp_trace.specs.Inputs.{input_of, read_of}
 use Rattle.wrp_fields.specs.Reading.{is_plain_octet, is_plain}
 use Rattle.wrp_trace.specs.LineSetting.{LineSetting}
 
--- an octet that may stand in a line, and is no comma
+-- an octet that may appear in a line, and is not a comma
 abbrev pub is_text_octet : ℕ → Bool
 is_text_octet octet = not (octet == 44) && is_plain_octet octet
 
--- a text that may stand in a field
+-- a text that may appear in a field
 abbrev pub IsText : List ℕ → Type 0
 IsText text = list_all is_text_octet text ≡ true
 
@@ -30,7 +30,7 @@ abbrev pub AreTexts : List (List ℕ) → Type 0
 AreTexts [] = Unit {0}
 AreTexts (text ∷ texts) = IsText text × AreTexts texts
 
--- from `-` on, all octets below 128 may stand in a field
+-- from `-` on, all octets below 128 may appear in a field
 pub text_octet : (c : ℕ) → 45 ≤ c → c < 128 → is_text_octet c ≡ true
 text_octet c low high =
     rw (ne_eqb c 44 (λ e. omega arith), ne_eqb c 34 (λ e. omega arith), ne_eqb c 13 (λ e. omega arith), ne_eqb c 10 (λ e. omega arith), lt-ltb c 128 high)
@@ -119,7 +119,7 @@ plain_text (c ∷ cs) is =
     let both = and_parts (is_text_octet c) (list_all is_text_octet cs) is in
     and_from (is_plain_octet c) (list_all is_plain_octet cs) (and_parts (not (c == 44)) (is_plain_octet c) both.0).1 (plain_text cs both.1)
 
--- texts with commas between them may stand in a line
+-- texts with commas between them may appear in a line
 pub plain_line : (text : List ℕ) (texts : List (List ℕ)) → AreTexts (text ∷ texts)
     → list_all is_plain_octet (join_with_byte 44 (text ∷ texts)) ≡ true
 plain_line text [] are = plain_text text are.0
@@ -127,7 +127,7 @@ plain_line text (next ∷ texts) are =
     list_all-append is_plain_octet text (44 ∷ join_with_byte 44 (next ∷ texts))
     ∙ and_from (list_all is_plain_octet text) (list_all is_plain_octet (join_with_byte 44 (next ∷ texts))) (plain_text text are.0) (plain_line next texts are.1)
 
--- a line that begins with an octet is plain where all its octets are
+-- a line that begins with an octet is plain if all its octets are
 pub starts : (c : ℕ) (cs : List ℕ) (texts : List (List ℕ)) → list_all is_plain_octet (join_with_byte 44 ((c ∷ cs) ∷ texts)) ≡ true
     → is_plain (join_with_byte 44 ((c ∷ cs) ∷ texts)) ≡ true
 starts c cs [] are = are

@@ -14,7 +14,7 @@ use Rattle.wrp_trace.proofs.NumberLemmas.{natural_back}
 use Rattle.wrp_trace.proofs.SwapLemmas.{no_pass, said_plain}
 use Rattle.wrp_course.specs.EventAt.{IsSwap}
 
--- each port is none of those before
+-- each port differs from those before it
 abbrev pub ArePortsApart : List Swap → Type 0
 ArePortsApart swaps = AllPairs (λ a b. a.port ≢ b.port) swaps
 

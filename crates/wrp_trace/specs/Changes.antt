@@ -1,5 +1,5 @@
--- The further fields of a `pass`: NODE=DRIFT and LINK=MS/SM, any number of them, each name once (this
--- project's profile). The octets 61 and 47 are `=` and `/`.
+-- The further fields of a `pass`: NODE=DRIFT and LINK=MS/SM, any number of them, each name at most
+-- once (this project's profile). The octets 61 and 47 are `=` and `/`.
 use Rattle.std.specs.Prelude.{ℕ, ℤ, pos, negsuc, ◌+◌, if◌then◌else◌, is_some, Bool, Option, None, Some, option_map, option_and_then, unwrap_or, Result, Ok, Err, List, [], ◌∷◌, map, slice_get, slice_set}
 use Rattle.wrp_network.specs.declared.configuration.NetCfg.{NetCfg}
 use Rattle.wrp_base.specs.declared.fault.TraceFault.{TraceFault}
@@ -9,8 +9,8 @@ use Rattle.wrp_trace.specs.EventFields.{before, behind}
 use Rattle.wrp_fields.specs.Numbers.{number_in}
 use Rattle.wrp_fields.specs.Reading.{◌>>=◌, number_or_fault}
 
--- what a line says so far, one place for each node and for each link in file order: a node's drift, and
--- how far the delays of a link's fibre move, down and up. None where nothing is said of it
+-- what a line says so far, with one place for each node and for each link in file order: a node's
+-- drift, and how far the delays of a link's fibre move, down and up. None if nothing is said of it
 pub record SaidAt : Type 0 where
   pub drifts : List (Option ℤ)
   pub moves : List (Option (ℤ × ℤ))
@@ -33,30 +33,31 @@ move_in text =
     option_and_then (λ ms. option_map (λ sm. (ms, sm)) (change_in (behind 47 text)))
     (change_in (before 47 text))
 
--- whether something is said of the one of this number
+-- whether something is said of the node or link with this number
 abbrev pub is_said : {X : Type 0} → List (Option X) → ℕ → Bool
 is_said said n = is_some (option_and_then (λ o. o) (slice_get said n))
 
--- what is said of the one of this number, where nothing is said of it yet; a repeated name is a fault
+-- the change of the node or link with this number, if nothing is said of it yet; a repeated name is a
+-- fault
 abbrev pub said_once : {X : Type 0} → ℕ → List (Option X) → ℕ → Option X → Result X TraceFault
 said_once place said n change =
     if is_said said n then Err (Name place) else number_or_fault place change
 
--- where this drift is said of a node
+-- the same with this drift of a node
 abbrev pub with_drift : SaidAt → ℕ → ℤ → SaidAt
 with_drift said n drift = record said { drifts = slice_set said.drifts n (Some drift) }
 
--- where this move is said of a link's fibre
+-- the same with this move of a link's fibre
 abbrev pub with_move : SaidAt → ℕ → ℤ × ℤ → SaidAt
 with_move said l move = record said { moves = slice_set said.moves l (Some move) }
 
--- NODE=DRIFT, behind the `=`
+-- NODE=DRIFT, after the `=`
 abbrev pub drift_said : ℕ → SaidAt → ℕ → List ℕ → Result SaidAt TraceFault
 drift_said place said n text = do
   drift ← said_once place said.drifts n (change_in text)
   Ok (with_drift said n drift)
 
--- LINK=MS/SM, behind the `=`
+-- LINK=MS/SM, after the `=`
 abbrev pub move_said : ℕ → SaidAt → ℕ → List ℕ → Result SaidAt TraceFault
 move_said place said l text = do
   move ← said_once place said.moves l (move_in text)
@@ -68,37 +69,37 @@ named_said place said (Some n) link text = drift_said place said n text
 named_said place said None (Some l) text = move_said place said l text
 named_said place said None None text = Err (Name place)
 
--- a field: its name is what stands before the first `=`
+-- a field: its name is the text before the first `=`
 abbrev pub change_said : NetCfg → ℕ → SaidAt → List ℕ → Result SaidAt TraceFault
 change_said cfg place said text =
     named_said place said (node_named cfg (before 61 text)) (link_named cfg (before 61 text)) (behind 61 text)
 
--- all these fields, of which the first has this place
+-- all these fields, the first of which has this place
 abbrev pub changes_said : NetCfg → ℕ → SaidAt → List (List ℕ) → Result SaidAt TraceFault
 changes_said cfg place said [] = Ok said
 changes_said cfg place said (text ∷ texts) = do
   more ← change_said cfg place said text
   changes_said cfg (place + 1) more texts
 
--- of how many something is said
+-- for how many something is said
 abbrev pub count_said : {X : Type 0} → List (Option X) → ℕ
 count_said [] = 0
 count_said (None ∷ said) = count_said said
 count_said (Some x ∷ said) = 1 + count_said said
 
--- of how many nodes and links
+-- for how many nodes and links something is said
 abbrev pub said_count : SaidAt → ℕ
 said_count said = count_said said.drifts + count_said said.moves
 
--- the drifts of all nodes: 0 where nothing is said
+-- the drifts of all nodes: 0 if nothing is said
 abbrev pub all_drifts : SaidAt → List ℤ
 all_drifts said = map (λ drift. unwrap_or drift (pos 0)) said.drifts
 
--- the moves of all fibres: 0 where nothing is said
+-- the moves of all fibres: 0 if nothing is said
 abbrev pub all_moves : SaidAt → List (ℤ × ℤ)
 all_moves said = map (λ move. unwrap_or move (pos 0, pos 0)) said.moves
 
--- what is said behind a call that may end in a fault
+-- what is said after a call that may end in a fault
 abbrev pub outcome : Result (Unit {0}) TraceFault → SaidAt → Result SaidAt TraceFault
 outcome (Ok done) said = Ok said
 outcome (Err fault) said = Err fault

@@ -5,7 +5,7 @@ use Rattle.arrayvec.specs.ArrayVec.{ArrayVec}
 use Rattle.byteorder.specs.Endian.{big_number}
 use Rattle.hex.specs.Hex.{decode_of}
 
--- the octets, where they are at most 256
+-- the octets, if they are at most 256
 abbrev pub few : List ℕ → Option (List ℕ)
 few octets = if nat_le (length octets) 256 then Some octets else None
 

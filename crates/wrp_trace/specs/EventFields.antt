@@ -1,5 +1,5 @@
--- The fields of an event line that an input line has not: names of nodes and links, and signed numbers
--- (this project's profile).
+-- The fields of an event line that an input line does not have: names of nodes and links, and signed
+-- numbers (this project's profile).
 use Rattle.std.specs.Prelude.{ℕ, ℤ, pos, negsuc, ◌==◌, Result, List}
 use Rattle.std.specs.List.{before_first, after_first}
 use Rattle.wrp_base.specs.declared.fault.TraceFault.{TraceFault}
@@ -24,11 +24,11 @@ offset_at place fields =
     (number_in (negsuc 1_237_940_039_285_380_274_899_124_223) (pos 1_237_940_039_285_380_274_899_124_224)
     (field_of place fields))
 
--- a field of several parts: what stands before the first octet of this value, and all of the field
--- where there is none
+-- a field of several parts: what comes before the first octet of this value, or the whole field if
+-- there is none
 abbrev pub before : ℕ → List ℕ → List ℕ
 before octet text = before_first (λ c. c == octet) text
 
--- what stands behind that octet, and nothing where there is none
+-- what comes after that octet, or nothing if there is none
 abbrev pub behind : ℕ → List ℕ → List ℕ
 behind octet text = after_first (λ c. c == octet) text

@@ -1,4 +1,4 @@
--- Event lines, printed: numbers without leading zeros, hex in lower case, and of a `pass` only what is
+-- Event lines, printed: numbers without leading zeros, hex in lower case, and in a `pass` only what is
 -- not 0 (this project's profile).
 use Rattle.std.specs.Prelude.{ℕ, ℤ, ◌==◌, ◌&&◌, if◌then◌else◌, unsigned_abs, List, [], ◌∷◌, ◌++◌, map, slice_get, codes}
 use Rattle.std.specs.Option.{option_map_or}
@@ -23,7 +23,7 @@ link_text cfg l = option_map_or (λ link. link.name.bytes) (slice_get cfg.links.
 abbrev pub drift_words : NodeCfg → ℤ → List ℕ
 drift_words node drift = node.name.bytes ++ 61 ∷ signed_decimal drift
 
--- the same, where the drift is not 0
+-- the same, if the drift is not 0
 abbrev pub drift_text : NodeCfg → ℤ → List (List ℕ)
 drift_text node drift =
     if unsigned_abs drift == 0 then [] else drift_words node drift ∷ []
@@ -39,7 +39,7 @@ abbrev pub move_words : LinkCfg → ℤ × ℤ → List ℕ
 move_words link move =
     link.name.bytes ++ 61 ∷ (signed_decimal move.0 ++ 47 ∷ signed_decimal move.1)
 
--- the same, where the moves are not both 0
+-- the same, if the moves are not both 0
 abbrev pub move_text : LinkCfg → ℤ × ℤ → List (List ℕ)
 move_text link move =
     if (unsigned_abs move.0 == 0) && (unsigned_abs move.1 == 0) then []
@@ -89,11 +89,11 @@ event_texts cfg (Join link ms sm) =
 abbrev pub event_text : NetCfg → Event → List ℕ
 event_text cfg e = joined (event_texts cfg e)
 
--- texts, each behind a comma (octet 44)
+-- texts, each after a comma (octet 44)
 abbrev pub further : List (List ℕ) → List ℕ
 further texts = flat_map (λ text. 44 ∷ text) texts
 
--- a drift, or a move, behind a comma; nothing where it is 0
+-- a drift, or a move, after a comma; nothing if it is 0
 abbrev pub drift_piece : NodeCfg → ℤ → List ℕ
 drift_piece node drift = if unsigned_abs drift == 0 then [] else 44 ∷ drift_words node drift
 

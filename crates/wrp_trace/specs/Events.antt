@@ -1,5 +1,6 @@
--- Event lines: what each says, and which fault comes first in one that says nothing (this project's
--- profile). The kind is tried first, then the number of fields, then the fields from left to right.
+-- Event lines: what each says, and which fault comes first in a line that says nothing (this
+-- project's profile). The kind is tried first, then the number of fields, then the fields from left
+-- to right.
 use Rattle.std.specs.Prelude.{◌≡◌, ℕ, ℤ, if◌then◌else◌, Option, None, Some, Result, Ok, Err, List, [], map, drop, length}
 use Rattle.wrp_network.specs.declared.configuration.NetCfg.{NetCfg}
 use Rattle.wrp_base.specs.declared.fault.TraceFault.{TraceFault}
@@ -18,7 +19,7 @@ use Rattle.wrp_trace.specs.Fields.{u16_at, u32_at, step_at, bits_at, octets_at, 
 use Rattle.wrp_fields.specs.Reading.{◌>>=◌, field_of, is_plain}
 use Rattle.wrp_trace.specs.Swaps.{bare_swap, swaps_said}
 
--- so much time passes, with what is said of the nodes and the links
+-- this much time passes, with what is said of the nodes and the links
 abbrev pub pass_with : ℤ → SaidAt → Event
 pass_with dt said =
     events.Pass dt (record { items = all_drifts said }) (record { items = all_moves said })
@@ -116,7 +117,7 @@ fields_of_kind cfg kinds.Up fields = up_of cfg fields
 fields_of_kind cfg kinds.Cut fields = cut_of cfg fields
 fields_of_kind cfg kinds.Join fields = join_of cfg fields
 
--- the same, where the kind is known and may have so many fields
+-- the same, if the kind is known and may have so many fields
 abbrev pub counted_of : NetCfg → List (List ℕ) → Option EventKind → Result Event TraceFault
 counted_of cfg fields None = Err Kind
 counted_of cfg fields (Some kind) =
@@ -130,21 +131,22 @@ event_of cfg fields = counted_of cfg fields (kind_of (field_of 1 fields))
 abbrev pub event_read : NetCfg → List ℕ → Result Event TraceFault
 event_read cfg line = if is_plain line then event_of cfg (parts_of line) else Err Fields
 
--- an event whose names are told by their texts alone: room past the end of a name is no part of it
+-- an event in which only the text of each name counts: the room past the end of a name is not part
+-- of it
 abbrev pub bare : Event → Event
 bare (events.Up node off swaps) = events.Up node off (record { items = map bare_swap swaps.items })
 bare e = e
 
--- the same of a reading
+-- the same for a reading
 abbrev pub told : Result Event TraceFault → Result Event TraceFault
 told (Ok e) = Ok (bare e)
 told (Err fault) = Err fault
 
--- the same of a reading into a place, which has this event then
+-- the same for a reading into a place, which then has this event
 abbrev pub told_in : Result (Unit {0}) TraceFault → Event → Result Event TraceFault
 told_in (Ok done) e = Ok (bare e)
 told_in (Err fault) e = Err fault
 
--- an event that a line says can come to the network
+-- an event that a line says can happen in the network
 abbrev pub EventsCanCome : Type 0
 EventsCanCome = (cfg : NetCfg) (line : List ℕ) (e : Event) → event_read cfg line ≡ Ok e → IsEventOf cfg e

@@ -7,18 +7,18 @@ use Rattle.wrp_node.specs.declared.interface.Input.TheVariants.{Tick, Sample, Fr
 use Rattle.wrp_course.specs.EventAt.{IsRaw, IsTime}
 use Rattle.wrp_trace.specs.LineSetting.{LineSetting, is_grandmaster, has_port, module_of}
 
--- a module that the database does not list, or the values of one that is listed at the port
+-- a module that the database does not list, or the values of one that is listed for the port
 abbrev pub IsListed : LineSetting → ℕ → Option Module → Type 0
 IsListed site port None = Unit {0}
 IsListed site port (Some values) = (name : List ℕ) × (module_of site port name ≡ Some values)
 
--- the module of a port whose carrier comes; none where it goes
+-- the module of a port whose carrier comes; none if the carrier goes
 abbrev pub HasModule : LineSetting → ℕ → Bool → Option Module → Type 0
 HasModule site port true entry = IsListed site port entry
 HasModule site port false entry = entry ≡ None
 
--- the input may come to the node: its numbers are in the ranges of a line, its port is the node's,
--- its module is listed at that port or None, and a sample is not the grandmaster's
+-- the input may come to the node: its numbers are in the ranges of a line, its port is one of the
+-- node's, its module is listed for that port or is None, and a sample is not for the grandmaster
 abbrev pub IsInputAt : LineSetting → Input → Type 0
 IsInputAt site Tick = Unit {0}
 IsInputAt site (Sample n base bits) = (is_grandmaster site ≡ false) × (base ≤ 16_383)

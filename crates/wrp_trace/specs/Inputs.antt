@@ -1,5 +1,6 @@
--- Input lines: what each says, and which fault comes first in one that says nothing (this project's
--- profile). The kind is tried first, then the number of fields, then the fields from left to right.
+-- Input lines: what each says, and which fault comes first in a line that says nothing (this
+-- project's profile). The kind is tried first, then the number of fields, then the fields from left
+-- to right.
 use Rattle.std.specs.Prelude.{◌≡◌, ℕ, ◌==◌, true, false, if◌then◌else◌, Option, None, Some, Result, Ok, Err, List, length}
 use Rattle.wrp_base.specs.declared.fault.TraceFault.{TraceFault}
 use Rattle.wrp_base.specs.declared.fault.TraceFault.TheVariants.{Fields, Kind}
@@ -62,7 +63,7 @@ fields_of_kind site kinds.Up fields = up_of site fields
 fields_of_kind site kinds.Down fields = down_of site fields
 fields_of_kind site kinds.Reset fields = Ok inputs.Reset
 
--- the same, where the kind is known and has so many fields
+-- the same, if the kind is known and has so many fields
 abbrev pub counted_of : LineSetting → List (List ℕ) → Option InputKind → Result Input TraceFault
 counted_of site fields None = Err Kind
 counted_of site fields (Some kind) =
@@ -76,7 +77,7 @@ input_of site fields = counted_of site fields (kind_of site (field_of 1 fields))
 abbrev pub read_of : LineSetting → List ℕ → Result Input TraceFault
 read_of site line = if is_plain line then input_of site (parts_of line) else Err Fields
 
--- an answer to a reading into a place: the place has what was read, and stays as it was at a fault
+-- an answer to a reading into a place: the place has what was read, or is unchanged after a fault
 abbrev pub IsReadInto : {A : Type 0} → Result A TraceFault → Result Unit TraceFault → A → A → Type 0
 IsReadInto (Ok read) answer old new = (answer ≡ Ok tt) × (new ≡ read)
 IsReadInto (Err fault) answer old new = (answer ≡ Err fault) × (new ≡ old)

@@ -36,8 +36,8 @@ has_port site port = is_some (pair_at site.cfg site.node port)
 abbrev pub module_of : LineSetting → ℕ → List ℕ → Option Module
 module_of site port name = listed_at site.cfg site.db site.node port name
 
--- the module that a text names at a port: `unlisted` stands for a module that the database does not
--- list, and nothing is found for a name that is neither
+-- the module that a text names at a port: `unlisted` means a module that the database does not
+-- list, and a name that is neither finds nothing
 abbrev pub named_at : LineSetting → ℕ → List ℕ → Option (Option Module)
 named_at site port name =
     if same_name name (codes "unlisted") then Some None

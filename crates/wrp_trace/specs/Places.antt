@@ -1,5 +1,5 @@
--- A `pass` that is written where its changes stay: which changes it holds, and of which nodes and links something is
--- said (this project's profile).
+-- A `pass` that is written into a place where its changes remain: which changes it holds, and for which nodes and
+-- links something is said (this project's profile).
 use Rattle.std.specs.Prelude.{◌≡◌, ◌<◌, ℕ, ℤ, pos, if◌then◌else◌, Bool, true, false, Option, None, Some, unwrap_or, Result, Ok, Err, List, [], ◌∷◌, length, slice_get, slice_set}
 use Rattle.std.specs.List.{AllByRecursion}
 use Rattle.wrp_network.specs.declared.configuration.NetCfg.{NetCfg}
@@ -18,15 +18,15 @@ use Rattle.wrp_trace.specs.declared.events.marks.Named.{Named}
 use Rattle.wrp_trace.specs.declared.events.marks.Named.TheVariants.{Node, Link, Nothing}
 use Rattle.wrp_trace.specs.declared.events.place.EventPlace.{EventPlace}
 
--- Of one kind, nodes or links: a mark and a change for each
+-- For one kind, nodes or links: a mark and a change for each
 
--- what is said of each: its change where it is marked, and else nothing
+-- what is said of each: its change if it is marked, otherwise nothing
 abbrev pub said_in : {X : Type 0} → List Bool → List X → List (Option X)
 said_in [] changes = []
 said_in (mark ∷ marks) [] = []
 said_in (mark ∷ marks) (x ∷ changes) = (if mark then Some x else None) ∷ said_in marks changes
 
--- the change of one that is not marked is this
+-- the change of each one that is not marked is this
 abbrev pub RestsAt : {X : Type 0} → X → List Bool → List X → Type 0
 RestsAt rest [] changes = Unit {0}
 RestsAt rest (mark ∷ marks) [] = Unit {0}
@@ -36,22 +36,22 @@ RestsAt rest (mark ∷ marks) (x ∷ changes) = (mark ≡ false → x ≡ rest) 
 abbrev pub NoneMarked : List Bool → Type 0
 NoneMarked marks = AllByRecursion (λ mark. mark ≡ false) marks
 
--- whether the one of this number is marked
+-- whether the node or link with this number is marked
 abbrev pub is_marked : List Bool → ℕ → Bool
 is_marked marks n = unwrap_or (slice_get marks n) false
 
--- what is said with one said besides; a repeated name is a fault
+-- what is said, with one change more; a repeated name is a fault
 abbrev pub said_also : {X : Type 0} → ℕ → List (Option X) → ℕ → Option X → Result (List (Option X)) TraceFault
 said_also place said n change = do
   x ← said_once place said n change
   Ok (slice_set said n (Some x))
 
--- what is said behind a call that may end in a fault
+-- what is said after a call that may end in a fault
 abbrev pub said_then : {X : Type 0} → Result (Unit {0}) TraceFault → List (Option X) → Result (List (Option X)) TraceFault
 said_then (Ok done) said = Ok said
 said_then (Err fault) said = Err fault
 
--- Of both
+-- For both kinds
 
 -- what is said by the marks and the changes
 abbrev pub said_by : Marks → List ℤ → List (ℤ × ℤ) → SaidAt
@@ -111,19 +111,20 @@ abbrev pub AsPass : Event → Type 0
 AsPass (Pass dt drifts fibres) = Unit {0}
 AsPass _ = ⊥
 
--- of an event only the drifts became others
+-- only the drifts of an event changed
 pub record OnlyDrifts (old new : Event) : Type 0 where
   pub moves : moves_in new ≡ moves_in old
   pub span : span_in new ≡ span_in old
   pub pass : AsPass old → AsPass new
 
--- of an event only the moves became others
+-- only the moves of an event changed
 pub record OnlyMoves (old new : Event) : Type 0 where
   pub drifts : drifts_in new ≡ drifts_in old
   pub span : span_in new ≡ span_in old
   pub pass : AsPass old → AsPass new
 
--- of marks and an event only what is said of the clocks became another, of as many, and those not marked rest
+-- only what marks and an event say of the clocks changed; their number is the same, and a clock that is not
+-- marked does not move
 pub record AreClocks (old new : Marks) (before after : Event) : Type 0 where
   pub marks : length new.nodes.items ≡ length old.nodes.items
   pub count : length (drifts_in after) ≡ length (drifts_in before)
@@ -132,7 +133,7 @@ pub record AreClocks (old new : Marks) (before after : Event) : Type 0 where
   pub apart : new.apart ≡ old.apart
   pub only : OnlyDrifts before after
 
--- the same of the fibres
+-- the same for the fibres
 pub record AreFibres (old new : Marks) (before after : Event) : Type 0 where
   pub marks : length new.links.items ≡ length old.links.items
   pub count : length (moves_in after) ≡ length (moves_in before)
@@ -143,8 +144,8 @@ pub record AreFibres (old new : Marks) (before after : Event) : Type 0 where
 
 -- Places
 
--- it is a `pass` of this network, of which something is said where it is marked, and names are taken for apart only
--- where they are
+-- it is a `pass` of this network that says something only where it is marked, and `apart` is set only if a search
+-- for each name finds what it names
 pub record IsPassing (cfg : NetCfg) (marks : Marks) (e : Event) : Type 0 where
   pub pass : AsPass e
   pub holds : Holds cfg marks (drifts_in e) (moves_in e)

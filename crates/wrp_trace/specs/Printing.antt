@@ -20,7 +20,7 @@ abbrev pub message_text : Bool → List ℕ
 message_text true = codes "delay"
 message_text false = codes "sync"
 
--- MODULE: the first listed name with these values at the port, and `unlisted` for a module that the
+-- MODULE: the first listed name with these values at the port, or `unlisted` for a module that the
 -- database does not list
 abbrev pub module_text : LineSetting → ℕ → Option Module → List ℕ
 module_text site port None = codes "unlisted"

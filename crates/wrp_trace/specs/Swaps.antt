@@ -16,7 +16,7 @@ use Rattle.wrp_fields.specs.Reading.{◌>>=◌, number_or_fault, name_or_fault}
 abbrev pub bare_swap : Swap → Swap
 bare_swap swap = record swap { name = bare swap.name.bytes }
 
--- PORT: one that no swap before has
+-- PORT: a port that no earlier swap has
 abbrev pub own_port : ℕ → List Swap → ℕ → Result ℕ TraceFault
 own_port place swaps port =
     name_or_fault place (if list_any (λ swap. swap.port == port) swaps then None else Some port)
@@ -42,20 +42,20 @@ swap_at_port place port text = do
   rx ← true_delay place (behind 58 (behind 58 text))
   Ok (record { port = port; name = bare name; tx = tx; rx = rx })
 
--- a field, behind these swaps
+-- a field, after these swaps
 abbrev pub swap_said : ℕ → List Swap → List ℕ → Result Swap TraceFault
 swap_said place swaps text = do
   port ← new_port place swaps (before 58 text)
   swap_at_port place port (behind 58 text)
 
--- all these fields, of which the first has this place, behind these swaps
+-- all these fields, the first of which has this place, after these swaps
 abbrev pub swaps_said : ℕ → List Swap → List (List ℕ) → Result (List Swap) TraceFault
 swaps_said place swaps [] = Ok swaps
 swaps_said place swaps (text ∷ texts) = do
   swap ← swap_said place swaps text
   swaps_said (place + 1) (swaps ++ swap ∷ []) texts
 
--- The same of what the code holds
+-- The same for what the code holds
 
 -- a name's text, or the fault
 abbrev pub name_read : Result ArrayString TraceFault → Result (List ℕ) TraceFault

@@ -8,8 +8,8 @@ use wrp_base::{FRAME_ROOM, Frame};
 // The octets of BITS.
 const BITS_ROOM: usize = 8;
 
-/// The octets of HEX: two digits of either case for each, at most 256. None where the text is no
-/// such hex.
+/// The octets of HEX: two digits of either case for each, at most 256. None if the text is not such
+/// hex.
 #[tactic(auto, using(crate::proofs::DigitLemmas::too_long))]
 pub fn octets(text: &[u8]) -> Option<Frame>
     ensures { result ≡ frame_of text.now }
@@ -36,8 +36,8 @@ fn frame(octets: &[u8]) -> Frame
     frame
 }
 
-/// The number of BITS: 16 digits of either case, the most significant first. None where the text is
-/// another.
+/// The number of BITS: 16 digits of either case, the most significant first. None if the text is
+/// anything else.
 #[tactic(auto, using(crate::proofs::DigitLemmas::not_eight))]
 pub fn bits(text: &[u8]) -> Option<u64>
     ensures { result ≡ bits_of text.now }

@@ -41,9 +41,9 @@ fn read_row(row: &ByteRecord, net: &Network) -> Result<Event, TraceFault>
     }
 }
 
-/// What a line says. `Fields` where the line is not plain, else `Kind` where its first field is no
-/// kind, `Fields` where it has another number of fields, and then `Number` or `Name` with the place
-/// of the first field that says nothing. `Memory` where there is no memory to read it.
+/// What a line says. `Fields` if the line is not plain, otherwise `Kind` if its first field is no
+/// kind, `Fields` if it has another number of fields, and then `Number` or `Name` with the place of
+/// the first field that says nothing. `Memory` if memory runs out while it is read.
 pub fn read_event(alloc: Global, line: &[u8], net: &Network) -> Result<Event, TraceFault>
     ensures value { IsReading (event_read net.now.cfg line.now) (told result) }
     ensures event { IfOk result (IsEventOf net.now.cfg) }

@@ -27,7 +27,7 @@ const LAST_STEP: u64 = 16_383;
 // The greatest count of periods.
 const MOST_COUNT: u64 = (1 << 63) - 1;
 
-/// A number of 16 bits: 0 to 65535. `Number` with this place where the field is not that.
+/// A number of 16 bits: 0 to 65535. `Number` with this place if the field is not such a number.
 pub fn u16_at(row: &ByteRecord, place: u32) -> Result<u16, TraceFault>
     requires { 0 < place }
     ensures { result ≡ u16_at place (fields_of row.now) }
@@ -36,7 +36,8 @@ pub fn u16_at(row: &ByteRecord, place: u32) -> Result<u16, TraceFault>
     Ok(number as u16)
 }
 
-/// A number of 32 bits: 0 to `2^32 - 1`. `Number` with this place where the field is not that.
+/// A number of 32 bits: 0 to `2^32 - 1`. `Number` with this place if the field is not such a
+/// number.
 pub fn u32_at(row: &ByteRecord, place: u32) -> Result<u32, TraceFault>
     requires { 0 < place }
     ensures { result ≡ u32_at place (fields_of row.now) }
@@ -45,8 +46,8 @@ pub fn u32_at(row: &ByteRecord, place: u32) -> Result<u32, TraceFault>
     Ok(number as u32)
 }
 
-/// A place in the period, in detector steps: 0 to 16383. `Number` with this place where the field
-/// is not that.
+/// A place in the period, in detector steps: 0 to 16383. `Number` with this place if the field is
+/// not such a number.
 pub fn step_at(row: &ByteRecord, place: u32) -> Result<u16, TraceFault>
     requires { 0 < place }
     ensures value { result ≡ step_at place (fields_of row.now) }
@@ -56,8 +57,8 @@ pub fn step_at(row: &ByteRecord, place: u32) -> Result<u16, TraceFault>
     Ok(number as u16)
 }
 
-/// A counter of whole periods: 1 to `2^63 - 1`. `Number` with this place where the field is not
-/// that.
+/// A counter of whole periods: 1 to `2^63 - 1`. `Number` with this place if the field is not such a
+/// number.
 pub fn counter_at(row: &ByteRecord, place: u32) -> Result<u64, TraceFault>
     requires { 0 < place }
     ensures value { result ≡ counter_at place (fields_of row.now) }
@@ -66,7 +67,7 @@ pub fn counter_at(row: &ByteRecord, place: u32) -> Result<u64, TraceFault>
     number_at(row, place, 1, MOST_COUNT)
 }
 
-/// The beat bits: 16 hex digits. `Number` with this place where the field is not that.
+/// The beat bits: 16 hex digits. `Number` with this place if the field is anything else.
 pub fn bits_at(row: &ByteRecord, place: u32) -> Result<u64, TraceFault>
     requires { 0 < place }
     ensures { result ≡ bits_at place (fields_of row.now) }
@@ -77,8 +78,8 @@ pub fn bits_at(row: &ByteRecord, place: u32) -> Result<u64, TraceFault>
     }
 }
 
-/// The octets of a frame, as hex digits: at most 256 octets. `Number` with this place where the
-/// field is not that.
+/// The octets of a frame, as hex digits: at most 256 octets. `Number` with this place if the field
+/// is anything else.
 pub fn octets_at(row: &ByteRecord, place: u32) -> Result<Frame, TraceFault>
     requires { 0 < place }
     ensures { result ≡ octets_at place (fields_of row.now) }
@@ -89,8 +90,8 @@ pub fn octets_at(row: &ByteRecord, place: u32) -> Result<Frame, TraceFault>
     }
 }
 
-/// The time of a stamp, in tau: 0 to `2^92`, a multiple of 1,000. `Number` with this place where
-/// the field is not that.
+/// The time of a stamp, in tau: 0 to `2^92`, a multiple of 1,000. `Number` with this place if the
+/// field is not such a number.
 pub fn time_at(row: &ByteRecord, place: u32) -> Result<Tau, TraceFault>
     requires { 0 < place }
     ensures value { result ≡ time_at place (fields_of row.now) }
@@ -131,8 +132,8 @@ pub fn stamp_from(row: &ByteRecord, place: u32) -> Result<Stamp, TraceFault>
     Ok(Stamp { value, sample })
 }
 
-/// A port of the node: a number first, and then one of the node's ports. `Number` with this place
-/// where it is no number of 16 bits, `Name` where it is no port of the node.
+/// A port of the node: the field must be a number, and then one of the node's ports. `Number` with
+/// this place if it is not a number of 16 bits, `Name` if it is not a port of the node.
 pub fn port_at(row: &ByteRecord, place: u32, net: &Network, node: u8) -> Result<u16, TraceFault>
     requires { 0 < place }
     ensures value { result ≡ port_at (line_setting_of net.now node) place (fields_of row.now) }
@@ -147,8 +148,8 @@ pub fn port_at(row: &ByteRecord, place: u32, net: &Network, node: u8) -> Result<
     }
 }
 
-/// Which message was sent: `sync` is false, `delay` is true. `Name` with this place where the field
-/// is neither.
+/// Which message was sent: `sync` is false, `delay` is true. `Name` with this place if the field is
+/// neither.
 pub fn message_at(row: &ByteRecord, place: u32) -> Result<bool, TraceFault>
     requires { 0 < place }
     ensures { result ≡ message_at place (fields_of row.now) }
@@ -164,7 +165,7 @@ pub fn message_at(row: &ByteRecord, place: u32) -> Result<bool, TraceFault>
 }
 
 /// The module at a port of the node: a listed one, or `unlisted`. The answer is None for
-/// `unlisted`. `Name` with this place where the field is neither.
+/// `unlisted`. `Name` with this place if the field is neither.
 pub fn module_at(
     row: &ByteRecord,
     place: u32,

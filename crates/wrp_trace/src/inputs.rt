@@ -1,4 +1,4 @@
-//! Input lines: what a node is handed, read from a line.
+//! Input lines: what a node is given, read from a line.
 ghost use Rattle.std.specs.Prelude.{◌≡◌, IfOk, OnOk, true, false};
 ghost use Rattle.csv.specs.Records.{fields_of};
 ghost use Rattle.wrp_trace.specs.Inputs.{sample_of, frame_of, sent_of, up_of, down_of, fields_of_kind, input_of, read_of, IsReadInto};
@@ -22,10 +22,10 @@ use wrp_node::Input;
 // The place of the first field.
 const KIND: u32 = 1;
 
-/// Puts what the fields of a line say to a node into `input`, which stays as it was where they say
-/// nothing. An input has room for a whole frame: one place serves line after line. `Kind` where the
-/// first field is no kind that the node has, else `Fields` where there is another number of fields,
-/// else `Number` or `Name` with the place of the first field that says nothing.
+/// Puts what the fields of a line say to a node into `input`, which is unchanged if they say
+/// nothing. An input has room for a whole frame, so one place serves line after line. `Kind` if the
+/// first field is no kind that the node has, otherwise `Fields` if there is another number of
+/// fields, otherwise `Number` or `Name` with the place of the first field that says nothing.
 pub fn read_input_fields(
     row: &ByteRecord,
     net: &Network,
@@ -158,8 +158,8 @@ fn read_row(row: &ByteRecord, net: &Network, node: u8) -> Result<Input, TraceFau
     }
 }
 
-/// What a line says to a node. `Fields` where the line is not plain, else the faults of
-/// [`read_input_fields`]. `Memory` where there is no memory to read it.
+/// What a line says to a node. `Fields` if the line is not plain, otherwise the faults of
+/// [`read_input_fields`]. `Memory` if memory runs out while it is read.
 pub fn read_input(alloc: Global, line: &[u8], net: &Network, node: u8) -> Result<Input, TraceFault>
     ensures value { IsReading (read_of (line_setting_of net.now node) line.now) result }
     ensures input { IfOk result (IsInputAt (line_setting_of net.now node)) }

@@ -18,13 +18,13 @@ pub enum InputKind {
     Sample,
     /// A frame that came.
     Frame,
-    /// The sending of a frame is told.
+    /// The sending of a frame is reported.
     Sent,
     /// A port's carrier comes.
     Up,
     /// A port's carrier goes.
     Down,
-    /// The node starts anew.
+    /// The node starts again.
     Reset,
 }
 
@@ -102,7 +102,7 @@ fn among(kinds: &[InputKind], net: &Network, node: u8, word: &[u8]) -> Option<In
         .find(|kind| is_kind(net, node, *kind, word))
 }
 
-/// The kind of a line at a node, by its first field. None exactly where the node has no kind with
+/// The kind of a line at a node, by its first field. None if and only if the node has no kind with
 /// this word.
 #[tactic(auto, using(crate::proofs::KindLemmas::has_kind_found))]
 pub fn kind_of(net: &Network, node: u8, word: &[u8]) -> Option<InputKind>

@@ -1,5 +1,5 @@
-//! The lines that a trace is made of: what a node is handed, as a line of text, read and printed. A
-//! line that was printed reads back as the same input. The form of lines is this project's profile.
+//! The lines that a trace is made of: what a node is given, as a line of text, read and printed. A
+//! printed line reads back as the same input. The form of lines is this project's profile.
 #![tactic(auto)]
 
 mod digits;

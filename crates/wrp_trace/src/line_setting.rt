@@ -1,4 +1,4 @@
-//! A node of a network: its ports, and the modules that are listed at them.
+//! A node of a network: its ports, and the modules that are listed for them.
 ghost use Rattle.std.specs.Prelude.{◌≡◌, ◌&&◌, option_map, IfSome};
 ghost use Rattle.std.specs.List.{find};
 ghost use Rattle.wrp_caldb.specs.Name.{same_name};
@@ -11,7 +11,7 @@ use wrp_base::Module;
 use wrp_caldb::ListedModule;
 use wrp_config::{Network, link_above, pair_at};
 
-// The name that stands for a module that the database does not list.
+// The name of a module that the database does not list.
 const UNLISTED: &str = "unlisted";
 
 /// Whether a node gives the time: no link has it as its lower end.
@@ -38,7 +38,7 @@ fn has_name(module: &ListedModule, name: &[u8]) -> bool
     module.name().as_bytes() == name
 }
 
-// The listed module of a name.
+// The listed module with a name.
 fn listed<'a>(modules: &'a [ListedModule], name: &[u8]) -> Option<&'a ListedModule>
     ensures { option_map (λ m. m.now) result ≡ find (λ m. same_name m.name name.now) modules.now }
 {
@@ -63,8 +63,8 @@ fn module_of(net: &Network, node: u8, port: u16, name: &[u8]) -> Option<Module>
     entry_of(net, name, tx_nm, rx_nm)
 }
 
-/// The module that a text names at a port of a node: `unlisted` stands for one that the database
-/// does not list, and then the answer is Some of None. None where the name is neither.
+/// The module that a text names at a port of a node: `unlisted` means a module that the database
+/// does not list, and then the answer is Some of None. None if the name is neither.
 pub fn named_at(net: &Network, node: u8, port: u16, name: &[u8]) -> Option<Option<Module>>
     ensures value { result ≡ named_at (line_setting_of net.now node) port name.now }
     ensures listed { IfSome result (IsListed (line_setting_of net.now node) port) }
@@ -85,7 +85,7 @@ fn same_module(a: Module, b: Module) -> bool
     a.tx == b.tx && (a.rx == b.rx && (a.transition == b.transition && a.err == b.err))
 }
 
-// Whether these are the numbers of a module of these values.
+// Whether these are the numbers of a module with these values.
 fn has_values(entry: Option<Module>, values: Module) -> bool
     ensures { result ≡ has_values values entry }
 {
@@ -96,7 +96,7 @@ fn has_values(entry: Option<Module>, values: Module) -> bool
 }
 
 // The first listed module, in file order, whose name has these values for a pair of wavelengths. Such a
-// module has them by its own entries, so that few names are looked up: where no name is listed twice, one.
+// module has them by its own entries, so few names are looked up: only one if no name is listed twice.
 fn valued_for<'a>(
     net: &'a Network,
     tx_nm: u16,
@@ -137,8 +137,8 @@ fn name_of<'a>(net: &'a Network, node: u8, port: u16, values: Module) -> Option<
     }
 }
 
-/// How a module is named at a port of a node: by the first listed name whose values it has, and by
-/// `unlisted` where the database does not list it.
+/// How a module is named at a port of a node: by the first listed name whose values it has, or by
+/// `unlisted` if the database does not list it.
 pub fn module_name<'a>(net: &'a Network, node: u8, port: u16, module: Option<Module>) -> &'a str
     ensures { result.now ≡ module_text (line_setting_of net.now node) port «module» }
 {

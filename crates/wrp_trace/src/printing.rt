@@ -1,4 +1,4 @@
-//! Input lines, printed: what a node is handed, as a line that reads back as the same.
+//! Input lines, printed: what a node is given, as a line that reads back as the same.
 ghost use Rattle.std.specs.Prelude.{◌≡◌, ◌<◌, ◌≤◌, ◌^◌, ◌++◌, ◌∷◌, [], IfOk, OnOk, OnErr, Ok, length};
 ghost use Rattle.std.specs.String.{string_bytes};
 ghost use Rattle.hex.specs.Hex.{encode_lower};
@@ -15,7 +15,7 @@ use wrp_base::{Frame, Module, Raw, Stamp};
 use wrp_config::Network;
 use wrp_node::Input;
 
-/// The line of an input at a node, without LF. `AllocError` where there is no memory for it.
+/// The line of an input at a node, without LF. `AllocError` if memory runs out.
 pub fn input_line(alloc: Global, node: u8, x: &Input, net: &Network) -> Result<Vec<u8>, AllocError>
     requires accepted { IsAccepted net.now.cfg net.now.db }
     requires printable { IsInputAt (line_setting_of net.now node) x.now }
@@ -28,7 +28,7 @@ pub fn input_line(alloc: Global, node: u8, x: &Input, net: &Network) -> Result<V
 }
 
 /// Appends to `text` the line of an input at a node, with its LF, whatever the input is.
-/// `AllocError` where there is no memory for it: `text` keeps its octets.
+/// `AllocError` if memory runs out: `text` keeps its octets.
 pub fn append_input_line(
     alloc: Global,
     node: u8,
@@ -89,7 +89,7 @@ fn sample_text(alloc: Global, n: u32, base: u16, bits: u64) -> Result<String, Al
     format!(in alloc; "sample,{n},{base},{digits}")
 }
 
-/// The 16 digits of BITS. `AllocError` where there is no memory for them.
+/// The 16 digits of BITS. `AllocError` if memory runs out.
 pub fn bits_text(alloc: Global, bits: u64) -> Result<String, AllocError>
     ensures { IfOk result (λ text. string_bytes text ≡ bits_text bits) }
 {
@@ -97,7 +97,7 @@ pub fn bits_text(alloc: Global, bits: u64) -> Result<String, AllocError>
     hex::encode(alloc, octets.as_slice())
 }
 
-/// The digits of HEX. `AllocError` where there is no memory for them.
+/// The digits of HEX. `AllocError` if memory runs out.
 pub fn octets_text(alloc: Global, octets: &[u8]) -> Result<String, AllocError>
     ensures text { IfOk result (λ text. string_bytes text ≡ encode_lower octets.now) }
     ensures octets { AreOctets octets.now }

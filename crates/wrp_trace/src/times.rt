@@ -12,7 +12,7 @@ const MOST_TIME: i128 = 1 << 92;
 // A stamp is a multiple of this, in tau.
 const TIME_UNIT: u128 = 1_000;
 
-/// The time of a stamp, in tau: 0 to 2^92, a multiple of 1,000. None where the text is no such
+/// The time of a stamp, in tau: 0 to 2^92, a multiple of 1,000. None if the text is not such a
 /// number.
 pub fn time(text: &[u8]) -> Option<Tau>
     ensures value { result ≡ time_of text.now }

@@ -18,7 +18,7 @@ use memchr::memchr2;
 use std::alloc::Global;
 use wrp_fields::{Block, is_plain};
 
-// True only where each octet may stand in a plain line or is an LF: then what a line says is plain,
+// True only if each octet may appear in a plain line or is an LF: then what a line says is plain,
 // unless it is empty.
 #[tactic(auto, using(crate::proofs::PlainTexts::all_plain))]
 fn is_plain_text(octets: &[u8]) -> bool
@@ -27,7 +27,7 @@ fn is_plain_text(octets: &[u8]) -> bool
     octets.is_ascii() && memchr2(b'"', b'\r', octets).is_none()
 }
 
-// True only where what a line says is plain. In a plain text its length alone says so.
+// True only if what a line says is plain. In a plain text the line's length alone decides this.
 #[tactic(auto, using(crate::proofs::PlainTexts::long_is_plain))]
 fn is_plain_line(line: &[u8], text_is_plain: bool) -> bool
     requires whole { IsWhole line.now }
@@ -37,8 +37,8 @@ fn is_plain_line(line: &[u8], text_is_plain: bool) -> bool
     text_is_plain && line.len() > 1 || is_plain(content(line))
 }
 
-// The first line, where it is whole, no larger than a line may be, and plain, and one more record may
-// come behind so many.
+// The first line, if it is whole, no larger than a line may be, and plain, and if one more record may
+// come after so many.
 #[tactic(auto, using(crate::proofs::LineEnds::front_is, crate::proofs::LineEnds::front_within, crate::proofs::PlainTexts::front_plain))]
 fn plain_line(octets: &[u8], text_is_plain: bool, number: u32) -> Option<&[u8]>
     requires text { text_is_plain ≡ true → IsPlainText octets.now }
@@ -72,8 +72,8 @@ struct Handled {
     ended: Option<Ended>,
 }
 
-// Handles the lines of a block, which is these octets, up to the first that is not whole or not plain, by
-// this record of `csv`.
+// Handles the lines of a block, which consists of these octets, up to the first line that is not whole or
+// not plain, with this record of `csv`.
 fn handle_block<M: Machine>(
     alloc: Global,
     machine: &mut M,
@@ -130,8 +130,9 @@ fn handle_block<M: Machine>(
     }
 }
 
-// Handles the lines that a reader holds, which are those of these octets, up to the first that is not
-// whole or not plain. The reader passes them afterwards, so that none has to be copied.
+// Handles the lines that a reader holds, which are the lines of these octets, up to the first line
+// that is not whole or not plain. The reader passes over them afterwards, so that none has to be
+// copied.
 fn handle_plain<M: Machine>(
     alloc: Global,
     machine: &mut M,
@@ -163,8 +164,8 @@ fn handle_plain<M: Machine>(
     )
 }
 
-/// Handles the lines that a reader holds, up to the first that is not whole or not plain. None
-/// where no line ended the run.
+/// Handles the lines that a reader holds, up to the first line that is not whole or not plain. None
+/// if no line ended the run.
 pub fn handle_held<M: Machine>(
     alloc: Global,
     machine: &mut M,

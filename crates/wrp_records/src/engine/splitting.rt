@@ -8,8 +8,8 @@ use csv::ByteRecord;
 use std::alloc::{AllocError, Global};
 use wrp_fields::{Block, is_plain};
 
-/// The parts of a line that is alone. A line that is not plain has none. `AllocError` where there
-/// is no memory for them.
+/// The parts of a line that is alone. A line that is not plain has none. `AllocError` if memory
+/// runs out.
 #[tactic(auto, using(crate::proofs::LineEnds::starts_plain))]
 pub fn split(alloc: Global, line: &[u8]) -> Result<Option<ByteRecord>, AllocError>
     ensures { IfOk result (λ parts. MatchOption parts (IsLine line.now → ⊥) (HasParts line.now)) }
@@ -22,8 +22,8 @@ pub fn split(alloc: Global, line: &[u8]) -> Result<Option<ByteRecord>, AllocErro
     Ok(Some(row))
 }
 
-/// Puts the parts of the next line of a block, which is this, into `row`. `AllocError` where there
-/// is no memory for them: then nothing is known of `row` and of the block.
+/// Puts the parts of the next line of a block, which is this line, into `row`. `AllocError` if
+/// memory runs out: then nothing is known of `row` or of the block.
 pub fn split_next(
     block: &mut Block<'_>,
     line: &[u8],

@@ -32,7 +32,7 @@ const MOST_RATE: i128 = 100_000;
 // All of 1000.
 const ALL: u64 = 1_000;
 
-/// A time, in ms: 0 to `10^7`. `Number` with this place where the field is not that.
+/// A time, in ms: 0 to `10^7`. `Number` with this place if the field is not such a number.
 pub fn time_at(row: &ByteRecord, place: u32) -> Result<u64, TraceFault>
     requires { 0 < place }
     ensures value { result ≡ time_at place (fields_of row.now) }
@@ -50,7 +50,7 @@ pub fn tau_of_ms(ms: u64) -> Tau
     (TAU_OF_MS * u128::from(ms)) as i128
 }
 
-// What a one-way delay has left for the fibre, in tau.
+// What a one-way delay leaves for the fibre, in tau.
 fn fibre_room(cfg: &NetCfg) -> u64
     requires { HasRanges cfg.now }
     ensures value { result ≡ fibre_room cfg.now }
@@ -60,8 +60,8 @@ fn fibre_room(cfg: &NetCfg) -> u64
     reach.saturating_sub(cfg.tx_max + cfg.rx_max + 2 * cfg.e_db)
 }
 
-/// The delay of both ways of a fibre, in tau: 0 to four thirds of what a one-way delay has left for
-/// the fibre. `Number` with this place where the field is not that.
+/// The delay of both ways of a fibre, in tau: 0 to four thirds of what a one-way delay leaves for
+/// the fibre. `Number` with this place if the field is not such a number.
 pub fn sum_at(row: &ByteRecord, place: u32, cfg: &NetCfg) -> Result<u64, TraceFault>
     requires place { 0 < place }
     requires ranges { HasRanges cfg.now }
@@ -73,7 +73,7 @@ pub fn sum_at(row: &ByteRecord, place: u32, cfg: &NetCfg) -> Result<u64, TraceFa
     Ok(sum)
 }
 
-/// So many of 1000: 0 to 1000. `Number` with this place where the field is not that.
+/// So many of 1000: 0 to 1000. `Number` with this place if the field is not such a number.
 pub fn permille_at(row: &ByteRecord, place: u32) -> Result<u16, TraceFault>
     requires { 0 < place }
     ensures value { result ≡ permille_at place (fields_of row.now) }
@@ -83,7 +83,7 @@ pub fn permille_at(row: &ByteRecord, place: u32) -> Result<u16, TraceFault>
     Ok(permille as u16)
 }
 
-/// An offset, in ns: within `10^12`. `Number` with this place where the field is not that.
+/// An offset, in ns: within `10^12`. `Number` with this place if the field is not such a number.
 pub fn ns_at(row: &ByteRecord, place: u32) -> Result<i128, TraceFault>
     requires { 0 < place }
     ensures value { result ≡ ns_at place (fields_of row.now) }
@@ -104,8 +104,8 @@ pub fn off_of_ns(ns: i128) -> Tau
     product(i128::from(TAU_OF_NS), ns)
 }
 
-/// The rate of a clock at rest, in `10^-12`: within 100,000. `Number` with this place where the
-/// field is not that.
+/// The rate of a clock at rest, in `10^-12`: within 100,000. `Number` with this place if the field
+/// is not such a number.
 pub fn rate_at(row: &ByteRecord, place: u32) -> Result<i64, TraceFault>
     requires { 0 < place }
     ensures value { result ≡ rate_at place (fields_of row.now) }
@@ -117,8 +117,8 @@ pub fn rate_at(row: &ByteRecord, place: u32) -> Result<i64, TraceFault>
     }
 }
 
-/// A node that is not the grandmaster. `Name` with this place where the field names no node, or
-/// names the grandmaster.
+/// A node that is not the grandmaster. `Name` with this place if the field names no node, or names
+/// the grandmaster.
 pub fn lower_at(row: &ByteRecord, place: u32, cfg: &NetCfg) -> Result<u8, TraceFault>
     requires { 0 < place }
     ensures value { result ≡ lower_at cfg.now place (fields_of row.now) }
@@ -154,8 +154,8 @@ fn fault_kind(row: &ByteRecord, word: &[u8], cfg: &NetCfg) -> Result<FaultKind, 
     }
 }
 
-/// A fault: its time, what it does, and to which node or link. `Number` where field 2 is no time,
-/// else `Name` where field 3 is no such word, or field 4 is no name of a node or of a link.
+/// A fault: its time, what it does, and to which node or link. `Number` if field 2 is no time,
+/// otherwise `Name` if field 3 is no such word, or field 4 is no name of a node or of a link.
 pub fn fault_at(row: &ByteRecord, cfg: &NetCfg) -> Result<Fault, TraceFault>
     ensures value { result ≡ fault_at cfg.now (fields_of row.now) }
     ensures range { IfOk result (IsFault cfg.now) }

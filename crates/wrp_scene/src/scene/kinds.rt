@@ -12,7 +12,7 @@ pub enum SceneKind {
     Length,
     /// The delay of both ways of a link's fibre.
     Fibre,
-    /// The offset of a node's clock as the node comes up.
+    /// The offset of a node's clock when the node comes up.
     Offset,
     /// The rate of a node's clock at rest.
     Free,
@@ -81,7 +81,7 @@ fn among(kinds: &[SceneKind], word: &[u8]) -> Option<SceneKind>
     kinds.iter().copied().find(|kind| is_word(*kind, word))
 }
 
-/// The kind of a line, by its first field. None exactly where no kind has this word.
+/// The kind of a line, by its first field. None if and only if no kind has this word.
 pub fn kind_of(word: &[u8]) -> Option<SceneKind>
     ensures { result ≡ kind_of word.now }
 {

@@ -10,10 +10,10 @@ use super::fault::Fault;
 use wrp_base::{Tau, difference, floor_div, product, sum};
 use wrp_network::NetCfg;
 
-// Of both ways the way down takes this part, but for the asymmetry.
+// The way down takes this part of both ways, apart from the asymmetry.
 const HALF: i128 = 1 << 39;
 
-// This is all of both ways.
+// All of both ways.
 const WHOLE: i128 = 1 << 40;
 
 // The asymmetry of a link's fibre.
@@ -29,7 +29,7 @@ fn kappa_of(cfg: &NetCfg, link: u8) -> i64
     }
 }
 
-// The delay down of a fibre, of both ways so much.
+// The delay down of a fibre, from the delay of both ways.
 fn down_of(kappa: i64, both_ways: u64) -> Tau
     requires kappa { unsigned_abs kappa ≤ 2 ^ 38 }
     requires sum { both_ways ≤ 2 ^ 60 }
@@ -58,7 +58,7 @@ impl Scene {
         self.duration
     }
 
-    /// How many nodes it speaks of.
+    /// How many nodes it covers.
     pub fn node_count(&self) -> usize
         ensures { result ≡ length self.now.offsets }
     {
@@ -107,8 +107,8 @@ impl Scene {
         up_of(kappa_of(cfg, link), self.small_sum(link, cfg))
     }
 
-    /// The offset that a node's clock has as the node comes up, in tau: within `10^12` ns, and 0 at the
-    /// grandmaster.
+    /// The offset that a node's clock has when the node comes up, in tau: within `10^12` ns, and 0 for
+    /// the grandmaster.
     pub fn offset(&self, node: u8) -> Tau
         requires { node < length self.now.offsets }
         ensures { result ≡ offset_of self.now node }

@@ -18,7 +18,7 @@ use wrp_course::Place;
 use wrp_stamp::transition_of;
 use wrp_world::{Event, World};
 
-// Draws whether something happens that does so often of 1000 times.
+// Draws whether something happens that happens so often of 1000 times.
 fn draw_whether(draws: &mut Draws, permille: u16) -> bool
     ensures value { result ≡ number.is_drawn permille draws.old }
     ensures state { draws.new ≡ next_state draws.old }
@@ -39,7 +39,7 @@ fn times(lost: bool, repeated: bool) -> u8
     }
 }
 
-// The raw stamp at an end of a link. `None` where the clock there cannot be told.
+// The raw stamp at an end of a link. `None` if a stamp cannot show the clock there.
 fn raw_to<F: Fn(i64) -> i64>(world: &World<F>, to: Place) -> Option<Raw>
     requires valid { IsValid F.pre F.post world.now }
     requires link { to.link < length world.now.plant.net.cfg.links.items }
@@ -69,7 +69,7 @@ fn raw_of<F: Fn(i64) -> i64>(world: &World<F>, frame: u32) -> Option<Raw>
 }
 
 impl State {
-    // A frame arrives: whether it is lost, and whether it is handed over once more, is drawn.
+    // A frame arrives: it is drawn whether it is lost, and whether it is handed over once more.
     fn take_arrival(&mut self, frame: u32)
         ensures at { (at : SimAt) → SimIs at self.old → SimIs (rule.after_arrival self.old.scene frame at) self.new }
         ensures stays { (cfg : NetCfg) → FitsSim cfg self.old → StaysFit cfg self.old self.new }
@@ -106,7 +106,8 @@ impl State {
         }
     }
 
-    /// The frame that is due first arrives, where it is due now and its receiver's clock can be told.
+    /// The frame that is due first arrives, if it is due now and a stamp can show its receiver's
+    /// clock.
     pub(super) fn arrive<F: Fn(i64) -> i64>(
         &mut self,
         world: &World<F>,
@@ -125,7 +126,7 @@ impl State {
         }
     }
 
-    // A frame arrives, where it is due now.
+    // A frame arrives, if it is due now.
     fn arrive_at<F: Fn(i64) -> i64>(
         &mut self,
         world: &World<F>,

@@ -66,7 +66,7 @@ fn is_put_out_now<F: Fn(i64) -> i64>(world: &World<F>, place: Place) -> bool
     is_one_at(at, now)
 }
 
-// The port at an end of a link, where its node's clock can be told.
+// The port at an end of a link, if a stamp can show its node's clock.
 fn told_at<F: Fn(i64) -> i64>(world: &World<F>, place: Place) -> Option<Departure>
     requires valid { IsValid F.pre F.post world.now }
     requires link { place.link < length world.now.plant.net.cfg.links.items }
@@ -83,7 +83,7 @@ fn told_at<F: Fn(i64) -> i64>(world: &World<F>, place: Place) -> Option<Departur
     }
 }
 
-// The same, where besides its oldest waiting frame was put out now.
+// The same, if also its oldest waiting frame was put out now.
 fn departing_at<F: Fn(i64) -> i64>(world: &World<F>, place: Place) -> Option<Departure>
     requires valid { IsValid F.pre F.post world.now }
     requires link { place.link < length world.now.plant.net.cfg.links.items }
@@ -98,21 +98,22 @@ fn departing_at<F: Fn(i64) -> i64>(world: &World<F>, place: Place) -> Option<Dep
     }
 }
 
-// Where a port stands.
+// The place of a port in the order.
 fn standing(from: Departure) -> u32
     ensures { result ≡ departure.standing from }
 {
     u32::from(from.node) * 32 + u32::from(from.port)
 }
 
-// Whether a port stands before another one: by their nodes in file order, then ascending.
+// Whether a port comes before another one: by their nodes in file order, then by their numbers,
+// ascending.
 fn is_before(one: Departure, other: Departure) -> bool
     ensures { result ≡ nat_lt (departure.standing one) (departure.standing other) }
 {
     standing(one) < standing(other)
 }
 
-// That of two ports which stands first.
+// The one of two ports that comes first.
 fn first_of_two(one: Option<Departure>, other: Option<Departure>) -> Option<Departure>
     ensures { result ≡ departure.first_of_two one other }
 {
@@ -123,7 +124,7 @@ fn first_of_two(one: Option<Departure>, other: Option<Departure>) -> Option<Depa
     }
 }
 
-// That of a port and of those at the ends of a link which stands first: both ends are asked.
+// The port that comes first among this one and those at the ends of a link: both ends are asked.
 fn first_of_ends<F: Fn(i64) -> i64>(
     world: &World<F>,
     first: Option<Departure>,
@@ -149,7 +150,7 @@ fn first_of_ends<F: Fn(i64) -> i64>(
     first_of_two(first, departing_at(world, lower))
 }
 
-// The same; where no frame at an end of the link was put out now, the port stays the first.
+// The same; if no frame at an end of the link was put out now, the port remains the first.
 fn first_of_link<F: Fn(i64) -> i64>(
     world: &World<F>,
     first: Option<Departure>,
@@ -185,8 +186,8 @@ fn first_at_ends<F: Fn(i64) -> i64>(world: &World<F>) -> Option<Departure>
     first
 }
 
-// The first port of all nodes whose oldest waiting frame was put out now, and whose node's clock can be
-// told. Where nothing was put out now no end of a link is asked for it.
+// The first port of all nodes whose oldest waiting frame was put out now, and whose node's clock a
+// stamp can show. If nothing was put out now, no end of a link is asked for its port.
 fn first_departure<F: Fn(i64) -> i64>(world: &World<F>) -> Option<Departure>
     requires { IsValid F.pre F.post world.now }
     ensures value { Tells F.post (λ s w. option_map (departure_from w) (find (rule.departs_now s w) (rule.ports_of s))) world.now result }
@@ -240,8 +241,8 @@ impl State {
         self.comes();
     }
 
-    /// The first port whose oldest waiting frame was put out now, and whose node's clock can be told: it
-    /// departs.
+    /// The first port whose oldest waiting frame was put out now, and whose node's clock a stamp can
+    /// show: that frame departs.
     pub(super) fn depart<F: Fn(i64) -> i64>(&mut self, world: &World<F>, event: &mut Event) -> bool
         requires valid { IsValid F.pre F.post world.now }
         requires fits { FitsSim world.now.plant.net.cfg self.old }

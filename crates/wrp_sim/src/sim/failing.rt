@@ -59,8 +59,8 @@ fn remove(faults: &mut Vec<Fault>, i: usize)
     let _taken = faults.remove(i);
 }
 
-// Takes out the first fault whose time has come and that applies, and drops those before it that do not
-// apply.
+// Takes out the first fault whose time has come and that applies, and drops the faults before it that
+// do not apply.
 fn take_fault<F: Fn(i64) -> i64>(faults: &mut Vec<Fault>, world: &World<F>) -> Option<FaultKind>
     requires valid { IsValid F.pre F.post world.now }
     requires faults { AllByRecursion (IsFault world.now.plant.net.cfg) faults.old.items }
@@ -135,8 +135,8 @@ impl State {
         }
     }
 
-    /// A fault whose time has come and that applies; one that does not apply in its turn is dropped for
-    /// good.
+    /// A fault whose time has come and that applies; a fault that does not apply in its turn is dropped
+    /// for good.
     pub(super) fn fail<F: Fn(i64) -> i64>(&mut self, world: &World<F>, event: &mut Event) -> bool
         requires valid { IsValid F.pre F.post world.now }
         requires fits { FitsSim world.now.plant.net.cfg self.old }

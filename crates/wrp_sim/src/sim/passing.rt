@@ -21,10 +21,10 @@ use wrp_world::{Event, Steer, World, start_of};
 /// The longest time that passes at once, in tau.
 const LONGEST: i128 = 1 << 62;
 
-/// How fibres move that do not move, of as many as a network has at most.
+/// The moves of fibres that do not move, for as many as a network has at most.
 const STILL: [(i64, i64); 63] = [(0, 0); 63];
 
-// The sooner of two moments, of which the second counts where it is after now.
+// The sooner of two moments, the second of which counts only if it is after now.
 fn sooner(now: Tau, best: Tau, moment: Tau) -> Tau
     requires later { now <ℤ best }
     requires now { unsigned_abs now ≤ 2 ^ 100 }
@@ -57,7 +57,7 @@ fn soonest_due(now: Tau, other: Tau, due: Option<(u32, Tau)>) -> Tau
     }
 }
 
-// Whether there is a node of this number, and it is up.
+// Whether there is a node with this number, and it is up.
 fn is_up_at<F: Fn(i64) -> i64>(world: &World<F>, n: usize) -> bool
     requires { IsValid F.pre F.post world.now }
     ensures { (s : Setting) (w : WorldAt) → StandsFor F.post s w world.now → result ≡ true → (w.clock n).up ≡ true }
@@ -97,7 +97,8 @@ fn put_moves(count: usize, moves: &mut ArrayVec<(i64, i64), 63>)
     let _fits = moves.try_extend_from_slice(still(count));
 }
 
-// A time that passes, in place of another event; where one passed before, its lists stay where they are.
+// A time that passes, in place of another event; if that event was also a time that passes, its lists
+// stay where they are.
 fn make_pass(dt: i64, event: &mut Event)
     ensures { IsPassOf dt event.new }
 {
@@ -198,7 +199,7 @@ impl State {
         best
     }
 
-    // The same, where the first tick time after now is known.
+    // The same, if the first tick time after now is known.
     fn soonest_known<F: Fn(i64) -> i64>(
         &self,
         world: &World<F>,
@@ -226,7 +227,7 @@ impl State {
         }
     }
 
-    // The same; where it is known which node ticks next, and it is up, no other one is asked.
+    // The same; if it is known which node ticks next, and it is up, no other node is asked.
     fn soonest_tick<F: Fn(i64) -> i64>(&self, world: &World<F>, now: Tau, other: Tau) -> Tau
         requires valid { IsValid F.pre F.post world.now }
         requires fits { FitsSim world.now.plant.net.cfg self.now }
@@ -283,7 +284,7 @@ impl State {
         between(now, next)
     }
 
-    // How far the clock of a node that is steered so moves in a time.
+    // How far the clock of a node with this steering moves in a time.
     fn moves<F: Fn(i64) -> i64>(&self, world: &World<F>, dt: i64, n: u8, steering: Steer) -> i64
         requires valid { IsValid F.pre F.post world.now }
         requires fits { FitsSim world.now.plant.net.cfg self.now }
@@ -339,7 +340,7 @@ impl State {
         }
     }
 
-    // The clocks move so as a time passes.
+    // The clocks move in this way as a time passes.
     fn put_all_drifts<F: Fn(i64) -> i64>(&self, world: &World<F>, dt: i64, event: &mut Event)
         requires valid { IsValid F.pre F.post world.now }
         requires fits { FitsSim world.now.plant.net.cfg self.now }
@@ -364,7 +365,7 @@ impl State {
         put_all_moves(world.net().cfg.links.len(), event);
     }
 
-    /// Time passes to the next moment, where the end has not come.
+    /// Time passes to the next moment, if the end has not come.
     pub(super) fn pass<F: Fn(i64) -> i64>(
         &mut self,
         world: &World<F>,

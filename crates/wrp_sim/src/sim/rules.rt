@@ -8,7 +8,7 @@ use wrp_base::Tau;
 use wrp_world::{Event, World};
 
 impl State {
-    // What the rules give behind the start and the faults. `due` is the frame that is due first.
+    // What the rules after the start and the faults give. `due` is the frame that is due first.
     fn later<F: Fn(i64) -> i64>(
         &mut self,
         world: &World<F>,

@@ -32,8 +32,8 @@ fn draw_zeros(draws: &mut Draws, beat: u16) -> u32
 }
 
 impl State {
-    // The one-way delay down a link: the fibre's by the scenario, and the ports' by the entries of their
-    // modules.
+    // The one-way delay down a link: the delay of the fibre by the scenario, and the delays of the ports
+    // by the entries of their modules.
     fn delay_down<F: Fn(i64) -> i64>(&self, world: &World<F>, k: u8) -> Tau
         requires valid { IsValid F.pre F.post world.now }
         requires fits { FitsSim world.now.plant.net.cfg self.now }
@@ -106,7 +106,7 @@ impl State {
         }
     }
 
-    // The sample of a node that ticked last.
+    // The sample of the node that ticked last.
     fn sample_at<F: Fn(i64) -> i64>(&mut self, world: &World<F>, n: u8, event: &mut Event) -> bool
         requires valid { IsValid F.pre F.post world.now }
         requires fits { FitsSim world.now.plant.net.cfg self.old }
@@ -121,7 +121,7 @@ impl State {
         }
     }
 
-    // The sample of a node, where the link above it has its carrier.
+    // The sample of a node, if the link above it has its carrier.
     fn sample_over<F: Fn(i64) -> i64>(
         &mut self,
         world: &World<F>,
@@ -146,7 +146,7 @@ impl State {
     }
 }
 
-// The transmission delay of a module, 0 where it is not listed.
+// The transmission delay of a module, 0 if it is not listed.
 fn tx_of(entry: Option<Module>) -> u64
     ensures { result ≡ option_map_or (λ m. m.tx) entry 0 }
 {
@@ -156,7 +156,7 @@ fn tx_of(entry: Option<Module>) -> u64
     }
 }
 
-// The reception delay of a module, 0 where it is not listed.
+// The reception delay of a module, 0 if it is not listed.
 fn rx_of(entry: Option<Module>) -> u64
     ensures { result ≡ option_map_or (λ m. m.rx) entry 0 }
 {

@@ -57,7 +57,7 @@ impl State {
         self.tick_at.set(n, next, now);
     }
 
-    /// An event comes that is no tick.
+    /// An event comes that is not a tick.
     pub(super) fn comes(&mut self)
         ensures follows { (at : SimAt) → SimIs at self.old → SimIs (record at { ticked = None }) self.new }
         ensures stays { (cfg : NetCfg) → FitsSim cfg self.old → StaysFit cfg self.old self.new }

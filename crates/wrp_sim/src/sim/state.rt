@@ -6,7 +6,7 @@ use wrp_scene::{Fault, Scene};
 /// The frame that arrived last.
 #[derive(Clone, Copy)]
 pub struct Handed {
-    /// Its number; 0 before any.
+    /// Its number; 0 before any frame.
     pub frame: u32,
     /// How often it is still handed over.
     pub times: u8,
@@ -25,7 +25,7 @@ pub struct State {
     pub faults: Vec<Fault>,
     /// When each node ticks next, in true time.
     pub tick_at: Ticks,
-    /// The node whose tick came last, where no other event came since.
+    /// The node whose tick came last, if no other event came since.
     pub ticked: Option<u8>,
     /// The frame that arrived last.
     pub arrived: Handed,

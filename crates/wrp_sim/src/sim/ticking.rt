@@ -22,7 +22,7 @@ impl State {
         self.tick_at.at(n)
     }
 
-    // Whether the tick time of a node is now; a node that is down has none.
+    // Whether the tick time of a node is now; a node that is down has no tick time.
     fn ticks_now<F: Fn(i64) -> i64>(&self, world: &World<F>, n: u8) -> bool
         requires valid { IsValid F.pre F.post world.now }
         requires fits { FitsSim world.now.plant.net.cfg self.now }
@@ -39,7 +39,7 @@ impl State {
         }
     }
 
-    // The first node whose tick time is now: all are asked.
+    // The first node whose tick time is now: all nodes are asked.
     fn look_for_tick<F: Fn(i64) -> i64>(&self, world: &World<F>) -> Option<u8>
         requires valid { IsValid F.pre F.post world.now }
         requires fits { FitsSim world.now.plant.net.cfg self.now }
@@ -56,7 +56,7 @@ impl State {
         None
     }
 
-    // The first node whose tick time is now: none is asked where it is known that there is none.
+    // The first node whose tick time is now: no node is asked if it is known that there is none.
     fn first_tick<F: Fn(i64) -> i64>(&self, world: &World<F>) -> Option<u8>
         requires valid { IsValid F.pre F.post world.now }
         requires fits { FitsSim world.now.plant.net.cfg self.now }
@@ -72,7 +72,7 @@ impl State {
         }
     }
 
-    /// A node ticks whose tick time is now.
+    /// A node ticks if its tick time is now.
     pub(super) fn tick<F: Fn(i64) -> i64>(&mut self, world: &World<F>, event: &mut Event) -> bool
         requires valid { IsValid F.pre F.post world.now }
         requires fits { FitsSim world.now.plant.net.cfg self.old }

@@ -9,7 +9,7 @@ use wrp_fields::number;
 // The greatest change, in tau: 2^63 - 1.
 const MOST_CHANGE: i128 = (1 << 63) - 1;
 
-/// A change, in tau: within 2^63 - 1. None where the text is no such number.
+/// A change, in tau: within 2^63 - 1. None if the text is not such a number.
 pub fn change_in(text: &[u8]) -> Option<i64>
     ensures value { result ≡ change_in text.now }
     ensures range { IfSome result IsChange }
@@ -20,8 +20,8 @@ pub fn change_in(text: &[u8]) -> Option<i64>
     }
 }
 
-/// MS/SM: the changes of both ways, each in tau and within 2^63 - 1. None where one of them is no
-/// such number.
+/// MS/SM: the changes of both ways, each in tau and within 2^63 - 1. None if one of them is not
+/// such a number.
 pub fn move_in(text: &[u8]) -> Option<(i64, i64)>
     ensures value { result ≡ move_in text.now }
     ensures range { IfSome result IsMove }
@@ -32,7 +32,7 @@ pub fn move_in(text: &[u8]) -> Option<(i64, i64)>
     Some((ms, sm))
 }
 
-/// The place of a field, which is one more than the number of those before it.
+/// The place of a field, which is one more than the number of fields before it.
 pub fn place_of(at: usize) -> u32
     requires { at < 1_000 }
     ensures { result ≡ at + 1 }

@@ -1,4 +1,4 @@
-//! The fields of an event line, by their places from 1, that an input line has not.
+//! The fields of an event line, by their places from 1, that an input line does not have.
 ghost use Rattle.std.specs.Prelude.{◌≡◌, ◌<◌, ◌≤◌, ◌^◌, IfOk, unsigned_abs};
 ghost use Rattle.csv.specs.Records.{fields_of};
 ghost use Rattle.wrp_base.specs.Ranges.{IsFromTo};
@@ -14,8 +14,8 @@ const MOST_SPAN: i128 = (1 << 63) - 1;
 // The greatest offset, in tau: 2^90.
 const MOST_OFFSET: i128 = 1 << 90;
 
-/// How much true time passes, in tau: 1 to `2^63 - 1`. `Number` with this place where the field is
-/// not that.
+/// How much true time passes, in tau: 1 to `2^63 - 1`. `Number` with this place if the field is not
+/// such a number.
 pub fn span_at(row: &ByteRecord, place: u32) -> Result<i64, TraceFault>
     requires { 0 < place }
     ensures value { result ≡ span_at place (fields_of row.now) }
@@ -27,7 +27,8 @@ pub fn span_at(row: &ByteRecord, place: u32) -> Result<i64, TraceFault>
     }
 }
 
-/// A one-way delay, in tau: 0 to `2^63 - 1`. `Number` with this place where the field is not that.
+/// A one-way delay, in tau: 0 to `2^63 - 1`. `Number` with this place if the field is not such a
+/// number.
 pub fn delay_at(row: &ByteRecord, place: u32) -> Result<Tau, TraceFault>
     requires { 0 < place }
     ensures value { result ≡ delay_at place (fields_of row.now) }
@@ -39,7 +40,8 @@ pub fn delay_at(row: &ByteRecord, place: u32) -> Result<Tau, TraceFault>
     }
 }
 
-/// A clock's offset, in tau: within `2^90`. `Number` with this place where the field is not that.
+/// A clock's offset, in tau: within `2^90`. `Number` with this place if the field is not such a
+/// number.
 pub fn offset_at(row: &ByteRecord, place: u32) -> Result<Tau, TraceFault>
     requires { 0 < place }
     ensures value { result ≡ offset_at place (fields_of row.now) }

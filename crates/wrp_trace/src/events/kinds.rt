@@ -18,9 +18,9 @@ pub enum EventKind {
     Depart,
     /// A frame reaches the other end.
     Arrive,
-    /// A frame is handed to its receiver.
+    /// A frame is given to its receiver.
     Deliver,
-    /// Octets that the peer did not send come.
+    /// Octets come that the peer did not send.
     Noise,
     /// A node goes down.
     Down,
@@ -105,7 +105,7 @@ fn among(kinds: &[EventKind], word: &[u8]) -> Option<EventKind>
     kinds.iter().copied().find(|kind| is_word(*kind, word))
 }
 
-/// The kind of a line, by its first field. None exactly where no kind has this word.
+/// The kind of a line, by its first field. None if and only if no kind has this word.
 pub fn kind_of(word: &[u8]) -> Option<EventKind>
     ensures { result ≡ kind_of word.now }
 {

@@ -1,4 +1,5 @@
-//! The further fields of a `pass`, written where its changes stay: NODE=DRIFT and LINK=MS/SM.
+//! The further fields of a `pass`, written into a place where its changes remain: NODE=DRIFT and
+//! LINK=MS/SM.
 ghost use Rattle.std.specs.Prelude.{◌≡◌, ◌<◌, ◌≤◌, pos, IfSome, Some, length, map, drop, slice_set, true, false};
 ghost use Rattle.csv.specs.Records.{fields_of};
 ghost use Rattle.wrp_network.specs.Network.{node_count};
@@ -24,15 +25,15 @@ pub type Drifts = ArrayVec<i64, 64>;
 /// How far the delays of each link's fibre move, down and up, in tau.
 pub type Moves = ArrayVec<(i64, i64), 63>;
 
-/// Of which nodes and links of a network a `pass` says something so far, and which stand behind those that
-/// were named last.
+/// The nodes and links of a network of which a `pass` says something so far, and the node and the link
+/// that follow those named last.
 #[derive(Debug, Drop)]
 pub struct Marks {
     nodes: ArrayVec<bool, 64>,
     links: ArrayVec<bool, 63>,
     next_node: usize,
     next_link: usize,
-    // Whether a search for the name of each node and each link finds it, so that the next may be looked at first.
+    // Whether a search for the name of each node and each link finds it. If so, the next one may be tried first.
     apart: bool,
 }
 
@@ -95,7 +96,7 @@ pub fn still_fibres(links: &[LinkCfg]) -> Moves
     moves
 }
 
-// Whether the one of this number is marked.
+// Whether the node or link with this number is marked.
 fn is_marked(marks: &[bool], n: u8) -> bool
     requires { n < length marks.now }
     ensures { result ≡ is_marked marks.now n }
@@ -156,7 +157,7 @@ fn finds_each(cfg: &NetCfg) -> bool
     finds_nodes(cfg) && finds_links(cfg)
 }
 
-// The node of this number, where it has this name.
+// The node with this number, if it has this name.
 #[tactic(auto, using(crate::proofs::PlaceNames::next_node_is))]
 fn node_here(cfg: &NetCfg, at: usize, name: &[u8]) -> Option<u8>
     requires { FindsEach cfg.now }
@@ -169,7 +170,7 @@ fn node_here(cfg: &NetCfg, at: usize, name: &[u8]) -> Option<u8>
     }
 }
 
-// The link of this number, where it has this name.
+// The link with this number, if it has this name.
 #[tactic(auto, using(crate::proofs::PlaceNames::next_link_is))]
 fn link_here(cfg: &NetCfg, at: usize, name: &[u8]) -> Option<u8>
     requires { FindsEach cfg.now }
@@ -208,7 +209,7 @@ fn write_move(event: &mut Event, l: usize, moving: (i64, i64))
     }
 }
 
-// The one of this number is marked, or is not.
+// The node or link with this number is marked, or is not.
 fn set_mark<const N: usize>(marks: &mut ArrayVec<bool, N>, n: usize, mark: bool)
     requires { n < length marks.old.items }
     ensures { marks.new.items ≡ slice_set marks.old.items n mark }
@@ -216,7 +217,7 @@ fn set_mark<const N: usize>(marks: &mut ArrayVec<bool, N>, n: usize, mark: bool)
     marks[n] = mark;
 }
 
-// The clock of this number is not marked, and does not move.
+// The clock with this number is not marked, and does not move.
 fn forget_drift(marks: &mut ArrayVec<bool, 64>, event: &mut Event, n: usize)
     requires marks { n < length marks.old.items }
     requires drifts { n < length (drifts_in event.old) }
@@ -232,7 +233,7 @@ fn forget_drift(marks: &mut ArrayVec<bool, 64>, event: &mut Event, n: usize)
     }
 }
 
-// The same of a fibre.
+// The same for a fibre.
 fn forget_move(marks: &mut ArrayVec<bool, 63>, event: &mut Event, l: usize)
     requires marks { l < length marks.old.items }
     requires moves { l < length (moves_in event.old) }
@@ -248,7 +249,7 @@ fn forget_move(marks: &mut ArrayVec<bool, 63>, event: &mut Event, l: usize)
     }
 }
 
-// No clock is marked, and none moves: what was not marked is not written.
+// No clock is marked, and none moves: only what was marked is written.
 fn forget_drifts(marks: &mut ArrayVec<bool, 64>, event: &mut Event)
     requires same { length (drifts_in event.old) ≡ length marks.old.items }
     requires rest { RestsAt (pos 0) marks.old.items (drifts_in event.old) }
@@ -263,7 +264,7 @@ fn forget_drifts(marks: &mut ArrayVec<bool, 64>, event: &mut Event)
     }
 }
 
-// The same of the fibres.
+// The same for the fibres.
 fn forget_moves(marks: &mut ArrayVec<bool, 63>, event: &mut Event)
     requires same { length (moves_in event.old) ≡ length marks.old.items }
     requires rest { RestsAt (pos 0, pos 0) marks.old.items (moves_in event.old) }
@@ -279,7 +280,7 @@ fn forget_moves(marks: &mut ArrayVec<bool, 63>, event: &mut Event)
 }
 
 impl Marks {
-    /// Nothing is said of any.
+    /// Nothing is said of any node or link.
     pub fn new(cfg: &NetCfg) -> Marks
         ensures nodes { result.nodes.items ≡ map (λ node. false) cfg.now.nodes.items }
         ensures links { result.links.items ≡ map (λ link. false) cfg.now.links.items }
@@ -294,7 +295,7 @@ impl Marks {
         }
     }
 
-    // Nothing is said of any, and nothing changes.
+    // Nothing is said of any node or link, and nothing changes.
     fn forget(&mut self, cfg: &NetCfg, event: &mut Event)
         requires passing { IsPassing cfg.now self.old event.old }
         ensures none { said_by self.new (drifts_in event.new) (moves_in event.new) ≡ nothing_said cfg.now }
@@ -308,8 +309,8 @@ impl Marks {
         self.next_link = 0;
     }
 
-    // What a name stands for. Names mostly stand in file order: those behind the ones that were named last
-    // are looked at first, and then all.
+    // What a name stands for. Names are mostly in file order: those that follow the names found last are
+    // tried first, and then all.
     fn find(&self, cfg: &NetCfg, name: &[u8]) -> Named
         requires { self.now.apart ≡ true → FindsEach cfg.now }
         ensures { StandsFor cfg.now name.now result }
@@ -443,9 +444,9 @@ fn room(cfg: &NetCfg)
     let _links = cfg.links.len();
 }
 
-/// Writes what the further fields of a `pass` say: the changes of all nodes and links, 0 where
-/// nothing is said. `Number` or `Name` with the place of the first field that says nothing, or says
-/// a second time what an earlier one said: then nothing is known of the changes.
+/// Writes what the further fields of a `pass` say: the changes of all nodes and links, 0 if nothing
+/// is said. `Number` or `Name` with the place of the first field that says nothing, or that repeats
+/// what an earlier one said: then nothing is known of the changes.
 pub fn changes_into(
     row: &ByteRecord,
     cfg: &NetCfg,

@@ -8,7 +8,7 @@ use std::str;
 use wrp_caldb::{is_name, name_of};
 use wrp_network::Name;
 
-/// The text of a name; None exactly where the octets are no name.
+/// The text of a name; None if and only if the octets are no name.
 #[tactic(auto, using(crate::proofs::NameLemmas::no_utf8_no_name))]
 pub fn name_in(text: &[u8]) -> Option<Name>
     ensures { option_map (λ name. name.bytes) result
@@ -39,8 +39,8 @@ fn place_of(text: &[u8], octet: u8) -> Option<usize>
     text.iter().position(|c| *c == octet)
 }
 
-/// What stands before the first octet of this value, and what behind it: all of the text, and
-/// nothing, where there is none.
+/// What comes before the first octet of this value, and what comes after it; all of the text, and
+/// nothing, if there is no such octet.
 pub fn parts_at(text: &[u8], octet: u8) -> (&[u8], &[u8])
     ensures before { result.0.now ≡ before octet text.now }
     ensures behind { result.1.now ≡ behind octet text.now }

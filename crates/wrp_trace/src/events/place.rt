@@ -21,12 +21,12 @@ use wrp_network::NetCfg;
 const KIND: u32 = 1;
 
 /// A place for the events of a network's lines, which serves line after line: an event has room for the changes
-/// of 64 nodes and 63 links. Of a `pass` only what it names is written, and what the one before it named.
+/// of 64 nodes and 63 links. For a `pass`, only what it names and what the previous one named is written.
 #[derive(Debug, Drop)]
 pub struct EventPlace {
     // The last `pass`.
     passing: Event,
-    // The last event that is none.
+    // The last event that is not a `pass`.
     other: Event,
     // Which of the two was read last.
     is_pass: bool,
@@ -89,7 +89,7 @@ impl EventPlace {
     }
 }
 
-// So much time passes.
+// This much time passes.
 #[tactic(auto, using(crate::proofs::PlaceParts::no_pass_there))]
 fn write_span(event: &mut Event, span: i64)
     requires pass { AsPass event.old }
@@ -153,9 +153,10 @@ fn read_kind_into(
     }
 }
 
-/// Puts what the fields of a line say into a place, of whose event nothing is said where they say
-/// none. `Kind` where the first field is no kind, else `Fields` where there is another number of
-/// fields, else `Number` or `Name` with the place of the first field that says nothing.
+/// Puts what the fields of a line say into a place. If they say no event, nothing is known of the
+/// place's event. `Kind` if the first field is no kind, otherwise `Fields` if there is another
+/// number of fields, otherwise `Number` or `Name` with the place of the first field that says
+/// nothing.
 pub fn read_event_into(
     row: &ByteRecord,
     net: &Network,

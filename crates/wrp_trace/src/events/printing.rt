@@ -19,7 +19,7 @@ use wrp_config::Network;
 use wrp_course::{Event, Swap};
 use wrp_network::{LinkCfg, NetCfg, NodeCfg};
 
-/// The line of an event, without LF. `AllocError` where there is no memory for it.
+/// The line of an event, without LF. `AllocError` if memory runs out.
 pub fn event_line(alloc: Global, e: &Event, net: &Network) -> Result<Vec<u8>, AllocError>
     requires accepted { IsAccepted net.now.cfg net.now.db }
     requires printable { IsEventOf net.now.cfg e.now }
@@ -181,7 +181,7 @@ fn is_zero(change: i64) -> bool
     change.unsigned_abs() == 0
 }
 
-// NODE=DRIFT behind a comma.
+// NODE=DRIFT after a comma.
 fn drift_part(alloc: Global, node: &NodeCfg, drift: i64) -> Result<String, AllocError>
     ensures { IfOk result (λ text. string_bytes text ≡ 44 ∷ drift_words node.now drift) }
 {
@@ -189,7 +189,7 @@ fn drift_part(alloc: Global, node: &NodeCfg, drift: i64) -> Result<String, Alloc
     format!(in alloc; ",{name}={drift}")
 }
 
-// The same, where the drift is not 0.
+// The same, if the drift is not 0.
 fn drift_text(alloc: Global, node: &NodeCfg, drift: i64) -> Result<String, AllocError>
     ensures { IfOk result (λ text. string_bytes text ≡ drift_piece node.now drift) }
 {
@@ -200,7 +200,7 @@ fn drift_text(alloc: Global, node: &NodeCfg, drift: i64) -> Result<String, Alloc
     Ok(text)
 }
 
-// The drifts that are not 0, each behind a comma.
+// The drifts that are not 0, each after a comma.
 #[tactic(auto, using(crate::proofs::FurtherLemmas::drift_step))]
 fn add_drifts(
     alloc: Global,
@@ -226,7 +226,7 @@ fn is_still(moving: (i64, i64)) -> bool
     is_zero(moving.0) && is_zero(moving.1)
 }
 
-// LINK=MS/SM behind a comma.
+// LINK=MS/SM after a comma.
 fn move_part(alloc: Global, link: &LinkCfg, moving: (i64, i64)) -> Result<String, AllocError>
     ensures { IfOk result (λ text. string_bytes text ≡ 44 ∷ move_words link.now moving) }
 {
@@ -235,7 +235,7 @@ fn move_part(alloc: Global, link: &LinkCfg, moving: (i64, i64)) -> Result<String
     format!(in alloc; ",{name}={ms}/{sm}")
 }
 
-// The same, where the moves are not both 0.
+// The same, if the moves are not both 0.
 fn move_text(alloc: Global, link: &LinkCfg, moving: (i64, i64)) -> Result<String, AllocError>
     ensures { IfOk result (λ text. string_bytes text ≡ move_piece link.now moving) }
 {
@@ -246,7 +246,7 @@ fn move_text(alloc: Global, link: &LinkCfg, moving: (i64, i64)) -> Result<String
     Ok(text)
 }
 
-// The moves that are not both 0, each behind a comma.
+// The moves that are not both 0, each after a comma.
 #[tactic(auto, using(crate::proofs::FurtherLemmas::move_step))]
 fn add_moves(
     alloc: Global,
@@ -278,7 +278,7 @@ fn up_text(alloc: Global, name: &str, off: Tau, swaps: &Swaps) -> Result<String,
     Ok(text)
 }
 
-// PORT:MODULE:TX:RX behind a comma.
+// PORT:MODULE:TX:RX after a comma.
 fn swap_text(alloc: Global, swap: &Swap) -> Result<String, AllocError>
     ensures { IfOk result (λ text. string_bytes text ≡ 44 ∷ swap_text swap.now) }
 {
@@ -289,7 +289,7 @@ fn swap_text(alloc: Global, swap: &Swap) -> Result<String, AllocError>
     format!(in alloc; ",{port}:{name}:{tx}:{rx}")
 }
 
-// The swaps, each behind a comma.
+// The swaps, each after a comma.
 fn add_swaps(alloc: Global, swaps: &[Swap], text: &mut String) -> Result<(), AllocError>
     ensures { OnOk result (string_bytes text.new
         ≡ string_bytes text.old ++ further (map swap_text swaps.now)) }

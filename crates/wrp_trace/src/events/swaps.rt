@@ -33,7 +33,7 @@ fn has_port(swaps: &[Swap], port: u16) -> bool
     swaps.iter().any(|swap| swap.port == port)
 }
 
-// PORT: one that no swap before has.
+// PORT: a port that no earlier swap has.
 fn new_port(place: u32, swaps: &[Swap], text: &[u8]) -> Result<u16, TraceFault>
     requires { 0 < place }
     ensures value { result ≡ new_port place swaps.now text.now }
@@ -45,7 +45,7 @@ fn new_port(place: u32, swaps: &[Swap], text: &[u8]) -> Result<u16, TraceFault>
     }
 }
 
-// A port that no swap before has.
+// A port that no earlier swap has.
 fn not_among(place: u32, swaps: &[Swap], port: u16) -> Result<u16, TraceFault>
     requires { 0 < place }
     ensures value { result ≡ own_port place swaps.now port }
@@ -96,7 +96,7 @@ fn swap_at_port(place: u32, port: u16, text: &[u8]) -> Result<Swap, TraceFault>
     Ok(Swap { port, name, tx, rx })
 }
 
-// A field, behind these swaps.
+// A field, after these swaps.
 fn swap_at(place: u32, swaps: &[Swap], text: &[u8]) -> Result<Swap, TraceFault>
     requires { 0 < place }
     ensures value { swap_read result ≡ swap_said place swaps.now text.now }
@@ -110,7 +110,7 @@ fn swap_at(place: u32, swaps: &[Swap], text: &[u8]) -> Result<Swap, TraceFault>
     Ok(swap)
 }
 
-// The place of a field, which is one more than the number of those before it.
+// The place of a field, which is one more than the number of fields before it.
 fn place_of(at: usize) -> u32
     requires { at < 1_000 }
     ensures { result ≡ at + 1 }
@@ -118,7 +118,8 @@ fn place_of(at: usize) -> u32
     at as u32 + 1
 }
 
-/// What the further fields of an `up` say. The fault is that of the first field that says none.
+/// What the further fields of an `up` say. The fault is the one of the first field that says
+/// nothing.
 #[tactic(auto, using(crate::proofs::SwapLemmas::goes, crate::proofs::SwapLemmas::more_swaps))]
 pub fn swaps_at(row: &ByteRecord) -> Result<Swaps, TraceFault>
     requires { length (fields_of row.now) ≤ 21 }

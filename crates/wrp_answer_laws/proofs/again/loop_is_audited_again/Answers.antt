@@ -1,4 +1,4 @@
--- By the lemma of its own.
+-- By its own lemma.
 use Rattle.wrp_answer_laws.proofs.LoopAgain.{loop_audited_again}
 use Rattle.wrp_answer_laws.proofs.again.loop_is_audited_again.Goals as goal
 

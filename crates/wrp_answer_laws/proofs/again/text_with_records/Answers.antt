@@ -1,4 +1,4 @@
--- By the lemma of its own.
+-- By its own lemma.
 use Rattle.wrp_answer_laws.proofs.TextRecords.{text_with_records}
 use Rattle.wrp_answer_laws.proofs.again.text_with_records.Goals as goal
 

@@ -1,4 +1,4 @@
--- By the lemma of its own.
+-- By its own lemma.
 use Rattle.wrp_answer_laws.proofs.AcceptedLines.{accepted_is_audit}
 use Rattle.wrp_answer_laws.proofs.laws.accepted_is_audit.Goals as goal
 

@@ -1,4 +1,4 @@
--- By the lemma of its own.
+-- By its own lemma.
 use Rattle.wrp_answer_laws.proofs.Listed.{replay_of_listed}
 use Rattle.wrp_answer_laws.proofs.laws.replay_of_listed_inputs.Goals as goal
 

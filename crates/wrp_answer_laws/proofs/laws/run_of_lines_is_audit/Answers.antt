@@ -1,4 +1,4 @@
--- By the lemma of its own.
+-- By its own lemma.
 use Rattle.wrp_answer_laws.proofs.AcceptedLines.{run_of_lines_is_audit}
 use Rattle.wrp_answer_laws.proofs.laws.run_of_lines_is_audit.Goals as goal
 

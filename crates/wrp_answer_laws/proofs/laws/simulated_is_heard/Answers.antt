@@ -1,4 +1,4 @@
--- By the lemma of its own.
+-- By its own lemma.
 use Rattle.wrp_answer_laws.proofs.SimulatedHeard.{simulated_is_heard}
 use Rattle.wrp_answer_laws.proofs.laws.simulated_is_heard.Goals as goal
 

@@ -1,4 +1,4 @@
--- The lines are those of the step.
+-- The lines are the step's lines.
 use Rattle.std.proofs.Common.{◌∙◌, ap, rules}
 use Rattle.std.proofs.lemmas.Int.{to_z-of_z}
 use Rattle.std.proofs.lemmas.Result.{IfOk-weaker}

@@ -1,4 +1,4 @@
--- A plain line says what its parts say, and any other is refused.
+-- A plain line says what its parts say, and any other line is refused.
 use Rattle.std.proofs.Common.{◌∙◌, Err, subst, sym}
 use Rattle.wrp_base.specs.declared.fault.TraceFault.TheVariants.{Fields}
 use Rattle.wrp_config.specs.declared.network.Network.{Network}

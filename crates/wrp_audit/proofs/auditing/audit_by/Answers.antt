@@ -1,4 +1,4 @@
--- The machine begins with nothing taken; where there is no memory for the world, nothing is written.
+-- The machine begins with nothing taken; if memory runs out for the world, nothing is written.
 use Rattle.std.proofs.Common.{[], refl, subst, Option, List, ℕ}
 use Rattle.std.proofs.KnownBytes.{Appends-nil, Consumes-nil}
 use Rattle.wrp_config.specs.declared.network.Network.{Network}

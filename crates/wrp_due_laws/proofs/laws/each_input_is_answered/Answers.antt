@@ -1,4 +1,4 @@
--- By the lemma of its own.
+-- By its own lemma.
 use Rattle.wrp_due_laws.proofs.Measuring.{step_answered}
 use Rattle.wrp_due_laws.proofs.laws.each_input_is_answered.Goals as goal
 

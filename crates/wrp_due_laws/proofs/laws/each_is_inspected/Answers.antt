@@ -1,4 +1,4 @@
--- By the lemma of its own.
+-- By its own lemma.
 use Rattle.wrp_pcap.proofs.EachInspected.{each_is_inspected}
 use Rattle.wrp_due_laws.proofs.laws.each_is_inspected.Goals as goal
 

@@ -1,4 +1,4 @@
--- By the lemma of its own.
+-- By its own lemma.
 use Rattle.wrp_frame.proofs.Saying.{each_says}
 use Rattle.wrp_due_laws.proofs.laws.each_says.Goals as goal
 

@@ -1,4 +1,4 @@
--- By the lemma of its own.
+-- By its own lemma.
 use Rattle.wrp_due_laws.proofs.Heard.{heard_by_lines}
 use Rattle.wrp_due_laws.proofs.laws.frames_are_heard.Goals as goal
 

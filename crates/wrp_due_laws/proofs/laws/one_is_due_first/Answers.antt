@@ -1,4 +1,4 @@
--- By the lemma of its own.
+-- By its own lemma.
 use Rattle.wrp_due_laws.proofs.Arriving.{next_arrival}
 use Rattle.wrp_due_laws.proofs.laws.one_is_due_first.Goals as goal
 

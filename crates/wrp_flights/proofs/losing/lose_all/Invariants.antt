@@ -1,4 +1,4 @@
--- The frames so far are lost, and the others are as they were.
+-- The frames so far are lost, and the others are as before.
 use Rattle.std.proofs.Common.{drop}
 use Rattle.wrp_flights.specs.Losing.{lost_by}
 use Rattle.wrp_flights.proofs.Losses.{Losing}

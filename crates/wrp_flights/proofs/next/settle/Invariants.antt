@@ -1,4 +1,4 @@
--- Those that are left so far.
+-- What is left so far.
 use Rattle.std.proofs.Common.{length}
 use Rattle.wrp_flights.proofs.FirstDue.{Settling}
 use Rattle.wrp_flights.proofs.next.settle.Given as goal

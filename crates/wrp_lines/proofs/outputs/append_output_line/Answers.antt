@@ -1,4 +1,4 @@
--- The bound fits its type, since it is below 2 ^ 100.
+-- The bound fits its type, because it is below 2 ^ 100.
 use Rattle.std.proofs.Common.{pos, FitsSigned, arith}
 use Rattle.std.proofs.lemmas.Int.{ints, to_z-of_z}
 use Rattle.std.specs.Int.{w128}

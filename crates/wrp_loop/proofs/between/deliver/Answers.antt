@@ -1,4 +1,4 @@
--- The frame is such a one as the datagram may be, so it can be handed over.
+-- The frame is one that the datagram may be, so it can be handed over.
 use Rattle.std.proofs.Common.{refl, arith}
 use Rattle.wrp_course.specs.declared.event.Event.TheVariants.{Deliver}
 use Rattle.wrp_loop.proofs.Betweens.{can_deliver, may_deliver}

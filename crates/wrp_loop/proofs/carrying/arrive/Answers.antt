@@ -1,4 +1,4 @@
--- It comes next, so it can come; and behind it the datagrams are handled.
+-- It comes next, so it can come; and after it the datagrams are handled.
 use Rattle.std.proofs.Common.{refl, arith}
 use Rattle.wrp_loop.proofs.Carryings.{carries_on, routed_next, starts_carried}
 use Rattle.wrp_loop.proofs.Coming.{next_can, next_may}

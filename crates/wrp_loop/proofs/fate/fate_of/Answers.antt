@@ -1,4 +1,4 @@
--- What is found is the frame that the rule names, and the peer is that of the route.
+-- What is found is the frame that the rule names, and the peer is the peer of the route.
 use Rattle.std.proofs.Common.{None, Some}
 use Rattle.wrp_base.proofs.Booleans.{not_both}
 use Rattle.wrp_loop.specs.LoopRun.{world_at}

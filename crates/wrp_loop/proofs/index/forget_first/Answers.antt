@@ -1,4 +1,4 @@
--- None was forgotten, and then one more.
+-- At first none was forgotten, and then one more each time.
 use Rattle.std.proofs.Common.{rules}
 use Rattle.wrp_loop.proofs.Forgetting.{first_forgotten, none_forgotten}
 use Rattle.wrp_loop.proofs.index.forget_first.Goals as goal

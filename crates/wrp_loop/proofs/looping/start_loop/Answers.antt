@@ -1,4 +1,4 @@
--- The link has its ends, or it failed, or memory lacked.
+-- The link has its ends, or it failed, or memory ran out.
 use Rattle.std.proofs.Common.{ap}
 use Rattle.wrp_config.specs.declared.network.Network.{Network}
 use Rattle.wrp_loop.proofs.Leading.{not_begun, not_started, ready_first, started}

@@ -1,4 +1,4 @@
--- It comes, or its number is too great, or memory lacks.
+-- It comes, or its number is too great, or memory runs out.
 use Rattle.std.proofs.Common.{inl, arith}
 use Rattle.wrp_loop.proofs.Coming.{plain_counted, plain_lacks, plain_round, too_many}
 use Rattle.wrp_loop.proofs.plain.come_next.Goals as goal

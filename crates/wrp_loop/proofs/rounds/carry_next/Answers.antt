@@ -1,4 +1,4 @@
--- It arrives, or its number is too great, or the link or memory fails.
+-- It arrives, or its number is too great, or the link fails, or memory runs out.
 use Rattle.std.proofs.Common.{inl, inr, refl, ap, subst, Bool, Err, arith}
 use Rattle.wrp_loop.specs.declared.outcome.LoopFault.{LoopFault}
 use Rattle.wrp_loop.specs.declared.outcome.LoopFault.TheVariants.{Failed}

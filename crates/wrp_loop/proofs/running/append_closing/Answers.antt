@@ -1,4 +1,4 @@
--- The counters stand first, and the number behind them.
+-- The counters come first, and then the number.
 use Rattle.std.proofs.Common.{◌∙◌, ◌++◌, ap, append_assoc, IfOk, List, ℕ, Ok, Err, Result}
 use Rattle.std.specs.List.{concat}
 use Rattle.std.specs.Result.{OnOk}

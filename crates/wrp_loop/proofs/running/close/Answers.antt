@@ -1,4 +1,4 @@
--- The lines that close the loop stand behind what waits.
+-- The lines that close the loop follow what waits.
 use Rattle.std.proofs.Common.{◌∙◌, ◌++◌, ap, inr, subst, List, ℕ}
 use Rattle.std.specs.List.{concat}
 use Rattle.wrp_course.specs.Run.{world_after}

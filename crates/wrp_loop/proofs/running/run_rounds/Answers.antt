@@ -1,4 +1,4 @@
--- The loop goes on round by round, to where it ends.
+-- The loop goes on round by round, until it ends.
 use Rattle.std.proofs.Common.{◌≡◌, ◌∙◌, ◌++◌, ap, true, false, refl, subst, rules, sym, ℕ, Ok, Err, Result}
 use Rattle.std.proofs.KnownBytes.{Appends-trans}
 use Rattle.wrp_io.specs.Faults.{Rose}

@@ -33,12 +33,12 @@ start_loop-requires-clause-begins g c = (
 pub run_rounds-requires-clause-laws : goal.run_rounds-requires-clause-laws
 run_rounds-requires-clause-laws g c = own_laws c.args.net c.args.laws.items c.in-Ok-new.network.world c.requires.laws c.in-Ok-new.ensures.laws c.in-Ok-new.ensures.ready c.in-Ok-new.ensures.net
 
--- Where the sink failed
+-- If the sink failed
 
 pub returns-then-not-is_open-clause-ran : goal.returns-then-not-is_open-clause-ran
 returns-then-not-is_open-clause-ran g c = not_open (setting_in c.args.net) c.args.scene c.args.seed _ _ _ _ (no_calls _) c.is_open.ensures.none
 
--- Where it was started
+-- If the link was started
 
 started : (r : Result (Unit {0}) LoopFault) → (done : Unit {0}) → r ≡ Ok done → r ≡ Err faults.Failed → ⊥
 started r done is bad = let both : Ok done ≡ Err faults.Failed = sym is ∙ bad in cc
@@ -63,7 +63,7 @@ returns-in-Ok-start_loop-clause-linked g c =
       sound = λ other. c.run_rounds.ensures.linked.sound other ∙ kept;
     }
 
--- Where it was not
+-- If the link was not started
 
 err_told : (r : Result (Unit {0}) LoopFault) (fault : LoopFault) (P : Type 0) → r ≡ Err fault → OnErr r P → P
 err_told r fault P is h = subst (λ (k : Result (Unit {0}) LoopFault). OnErr k P) is h

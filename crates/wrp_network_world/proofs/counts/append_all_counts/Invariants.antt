@@ -1,4 +1,4 @@
--- The counters of the nodes from this one on are lacking.
+-- The counters of the nodes from this one on are still missing.
 use Rattle.std.proofs.Common.{◌≤◌, ◌-◌}
 use Rattle.wrp_network.specs.Network.{node_count}
 use Rattle.wrp_course.specs.Setting.{Setting}

@@ -1,4 +1,5 @@
--- The audit and the emission are of one run, whose inputs of the node are those of the replay.
+-- The audit and the emission belong to one run, and the inputs that it gives the node are the
+-- inputs of the replay.
 use Rattle.wrp_projection_laws.proofs.Projected.{replay_of_emitted}
 use Rattle.wrp_projection_laws.proofs.laws.replay_of_emitted_inputs.Goals as goal
 

@@ -1,4 +1,4 @@
--- The line is that of the network.
+-- The line is the network's.
 use Rattle.std.proofs.Common.{◌∙◌, ℕ, List, inr, subst}
 use Rattle.wrp_records.specs.declared.status.Status.TheVariants.{BadNetwork}
 use Rattle.wrp_records.specs.Engine.{Finishes}

@@ -1,4 +1,4 @@
--- The place is that of the fault.
+-- The place is the fault's.
 use Rattle.std.proofs.Common.{ℕ, List, subst}
 use Rattle.wrp_records.specs.Engine.{RefusesAt}
 use Rattle.wrp_records.proofs.answering.refuse_network.Goals as goal

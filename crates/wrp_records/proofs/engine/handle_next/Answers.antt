@@ -9,7 +9,7 @@ use Rattle.wrp_records.specs.Lines.{content_of}
 use Rattle.wrp_records.proofs.Reaching.{comes, writes_on, ends, fails, unwritten, no_memory, too_large, stops, goes_on, moved, told_by_finish}
 use Rattle.wrp_records.proofs.engine.handle_next.Goals as goal
 
--- what a failed read, a failed write and the end tell
+-- what a failed read, a failed write and the end report
 told_end : (read read_now write write_now : ℕ) (ended : Bool) → ((next.End ≡ next.Failed → ⊥) → read_now ≡ read) → ((next.End ≡ next.Unwritten → ⊥) → write_now ≡ write)
     → TellsFaults Done read read_now write write_now ended
 told_end read read_now write write_now ended source sink =
@@ -25,7 +25,7 @@ told_unwritten : (read read_now write write_now : ℕ) (ended : Bool) → ((next
 told_unwritten read read_now write write_now ended source rose =
     (λ is. cc, λ other. source (λ is. cc), λ is. rose, λ other. absurd (other refl), λ is. cc, λ is. cc, λ is. cc, λ is. cc, λ is. cc)
 
--- where no call failed
+-- if no call failed
 kept_memory : {P Q : Type 0} → ((next.Memory ≡ next.Failed → ⊥) → P) → ((next.Memory ≡ next.Unwritten → ⊥) → Q) → P × Q
 kept_memory source sink = (source (λ is. cc), sink (λ is. cc))
 

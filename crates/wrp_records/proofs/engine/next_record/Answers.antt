@@ -1,4 +1,4 @@
--- A line that passes the size has more octets than are taken.
+-- A line that exceeds the size has more octets than are taken.
 use Rattle.std.proofs.Common.{◌≡◌, ℕ, Option, List, [], inl, inr, refl}
 use Rattle.std.proofs.KnownBytes.{Appends-nil}
 use Rattle.wrp_records.specs.declared.engine.NextRecord.{NextRecord}
@@ -65,7 +65,7 @@ returns-clause-read_rose g c is = c.read_on-next.ensures.rose (c.answered-2.ensu
 pub returns-clause-read_kept : goal.returns-clause-read_kept
 returns-clause-read_kept g c other = c.read_on-next.ensures.kept (λ is. other (c.answered-2.ensures.failed.1 is))
 
--- where the source was not asked, the same waits
+-- if the source was not asked, the same waits
 waits_still : (r : NextRecord) (held : Option (List ℕ)) (waiting : List ℕ) → (r ≡ End → ⊥) → (r ≡ Failed → ⊥) → (r ≡ Unwritten → ⊥) → Writes r held held waiting waiting
 waits_still Line held waiting end failed unwritten = ([], Appends-nil held, refl)
 waits_still End held waiting end failed unwritten = absurd (end refl)

@@ -1,4 +1,4 @@
--- The front goes on with a line that had no LF.
+-- The front continues a line that had no LF.
 use Rattle.std.proofs.Common.{sym, subst}
 use Rattle.wrp_records.specs.Lines.{HasNoFeed, IsWhole}
 use Rattle.wrp_records.proofs.Feeds.{no_feed-append, whole_behind}

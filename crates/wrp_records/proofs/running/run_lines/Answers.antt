@@ -1,4 +1,4 @@
--- What stands behind the records, or where they end before.
+-- What follows the records, or how their handling ends before that.
 use Rattle.std.proofs.Common.{◌≡◌, subst}
 use Rattle.wrp_records.specs.declared.status.Status.TheVariants.{Done, ReadFault, WriteFault}
 use Rattle.wrp_records.specs.LineMeaning.{LineMeaning, meaning_by}

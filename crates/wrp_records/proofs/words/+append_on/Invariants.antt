@@ -1,4 +1,4 @@
--- Each turn has one word less.
+-- Each turn has one word fewer.
 use Rattle.std.proofs.Common.{length}
 use Rattle.wrp_records.proofs.words.+append_on.Given as goal
 

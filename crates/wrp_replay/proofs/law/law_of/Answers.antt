@@ -1,4 +1,4 @@
--- The law is that of the table, or the fraction.
+-- The law is the table's law, or the fraction.
 use Rattle.std.proofs.Common.{◌≡◌, ◌∙◌, None, Some, option_map, ap, sym, rules}
 use Rattle.std.proofs.lemmas.Int.{to_z-of_z}
 use Rattle.wrp_caldb.specs.Database.{table_at}

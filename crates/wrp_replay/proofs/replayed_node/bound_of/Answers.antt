@@ -1,4 +1,4 @@
--- The bound does not see the unused room of names.
+-- The bound does not depend on the unused room of names.
 use Rattle.std.proofs.Common.{◌≡◌, ◌∙◌, pos, ap, sym, rules}
 use Rattle.std.proofs.lemmas.Int.{to_z-of_z}
 use Rattle.wrp_bounds.specs.Bounds.{path_of}

@@ -1,4 +1,4 @@
--- A plain line says what its parts say, and any other is refused.
+-- A plain line says what its parts say, and any other line is refused.
 use Rattle.wrp_trace.specs.LineSetting.{line_setting_of}
 use Rattle.wrp_replay.proofs.PlainLines.{reads_parts, reads_none}
 use Rattle.wrp_replay.proofs.replayed_node.read_parts.Goals as goal

@@ -1,5 +1,5 @@
--- The law is that of the node, and the machine begins with nothing taken; where there is no memory for the node, nothing
--- is written.
+-- The law is the law of the node, and the machine begins with nothing taken; if memory runs out for the node,
+-- nothing is written.
 use Rattle.std.proofs.Common.{refl}
 use Rattle.std.proofs.KnownBytes.{Appends-nil, Consumes-nil}
 use Rattle.wrp_trace.specs.LineSetting.{line_setting_of}

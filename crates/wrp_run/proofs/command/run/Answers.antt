@@ -1,4 +1,4 @@
--- What a run answers is what is due.
+-- A run answers what is expected.
 use Rattle.wrp_asked.proofs.AloneTold.{aimed}
 use Rattle.wrp_asked.proofs.EmitTold.{emission_told}
 use Rattle.wrp_asked.proofs.HeadlineTold.{headline_told}

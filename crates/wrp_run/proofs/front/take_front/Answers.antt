@@ -1,4 +1,4 @@
--- How the run ends where what stands in front is refused, or cannot be taken.
+-- How the run ends if the part before the records is refused, or cannot be taken.
 use Rattle.std.proofs.Common.{ℕ, List, Ok, Err, subst}
 use Rattle.std.proofs.KnownBytes.{Appends-nil}
 use Rattle.wrp_network_text.specs.Reading.{IsReadingOf}

@@ -1,4 +1,4 @@
--- Where there is no memory for the reader, nothing was taken.
+-- If memory runs out for the reader, nothing was taken.
 use Rattle.std.proofs.Common.{refl}
 use Rattle.std.proofs.KnownBytes.{Appends-nil}
 use Rattle.wrp_records.specs.Passages.{passage}

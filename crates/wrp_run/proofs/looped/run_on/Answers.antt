@@ -1,4 +1,4 @@
--- The laws are those of the links.
+-- The laws are the laws of the links.
 use Rattle.std.proofs.Common.{◌∙◌, ◌+◌, ℕ, Some, None, if◌then◌else◌, ap, subst, sym, arith, length, refl}
 use Rattle.std.specs.Prelude.{slice_get}
 use Rattle.std.proofs.lemmas.Int.{to_z-of_z}

@@ -1,4 +1,4 @@
--- What stands behind the front is told of the whole input.
+-- The output after the front, by the whole input.
 use Rattle.std.proofs.Common.{◌∙◌, refl, ℕ, subst}
 use Rattle.wrp_io.specs.Faults.{Rose}
 use Rattle.wrp_records.specs.Passages.{passage}

@@ -1,4 +1,4 @@
--- The network has no node of the name.
+-- The network has no node with this name.
 use Rattle.wrp_records.specs.Passages.{passage}
 use Rattle.wrp_asked.specs.Answer.{AsksNone}
 use Rattle.wrp_asked.specs.Ends.{Run, begun_at}

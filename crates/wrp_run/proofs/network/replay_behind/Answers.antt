@@ -1,4 +1,4 @@
--- The replay of a node that is named, told of the whole input.
+-- The replay of a node that is named, by the whole input.
 use Rattle.std.proofs.Common.{◌∙◌, ◌<◌, [], refl, subst, sym}
 use Rattle.wrp_network.specs.Network.{node_count}
 use Rattle.wrp_config.proofs.Lists.{found_place}

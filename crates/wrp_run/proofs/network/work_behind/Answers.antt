@@ -1,4 +1,4 @@
--- What the work on a network says of the whole input; or there is no memory for a copy of the network.
+-- What the work on a network says of the whole input; or memory runs out for a copy of the network.
 use Rattle.std.proofs.Common.{◌∙◌, subst, sym}
 use Rattle.std.proofs.KnownBytes.{Appends-nil}
 use Rattle.wrp_config.specs.declared.network.Network.{Network}

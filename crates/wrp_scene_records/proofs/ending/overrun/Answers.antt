@@ -1,4 +1,4 @@
--- The line that names the event stands behind what waits.
+-- The line that names the event follows what waits.
 use Rattle.std.proofs.Common.{◌≡◌, ◌∙◌, inl, inr, sym}
 use Rattle.wrp_records.specs.declared.status.Status.TheVariants.{ReadFault, TooLarge, WriteFault}
 use Rattle.wrp_scene_records.proofs.ending.overrun.Goals as goal

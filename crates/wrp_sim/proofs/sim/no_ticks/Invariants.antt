@@ -1,4 +1,4 @@
--- So many times, all 0.
+-- This many times, all 0.
 use Rattle.std.proofs.Common.{◌≡◌, length, pos}
 use Rattle.wrp_plant.specs.Plant.{Each}
 use Rattle.wrp_sim.proofs.sim.no_ticks.Given as goal

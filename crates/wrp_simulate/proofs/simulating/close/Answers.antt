@@ -1,4 +1,4 @@
--- The lines that sum up stand behind what waits.
+-- The lines that sum up follow what waits.
 use Rattle.std.proofs.Common.{◌≡◌, ◌∙◌, inl, inr, subst, sym, List, ℕ}
 use Rattle.wrp_records.specs.declared.status.Status.TheVariants.{Done, ReadFault, WriteFault}
 use Rattle.wrp_simulate.specs.declared.totals.Total.{Total}

@@ -1,4 +1,4 @@
--- The run goes on event by event, to where it ends.
+-- The run goes on event by event, until it ends.
 use Rattle.std.proofs.Common.{◌≡◌, ◌∙◌, ◌∷◌, true, false, refl, subst, rules, ℕ}
 use Rattle.wrp_io.specs.Faults.{Rose}
 use Rattle.wrp_simulate.specs.SimStands.{Steps}

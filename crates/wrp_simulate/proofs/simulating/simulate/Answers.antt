@@ -1,4 +1,4 @@
--- What stands behind the scenario, and where it is refused.
+-- What follows the scenario, and what happens if the scenario is refused.
 use Rattle.std.proofs.Common.{◌≡◌, ◌∙◌, [], refl, subst, sym, ℕ, List}
 use Rattle.wrp_config.specs.declared.network.Network.{Network}
 use Rattle.wrp_scene.specs.Scenario.{SceneAt}

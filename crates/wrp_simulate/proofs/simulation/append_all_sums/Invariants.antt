@@ -1,4 +1,4 @@
--- The sums of the nodes from this one on are lacking.
+-- The sums of the nodes from this one on are still missing.
 use Rattle.std.proofs.Common.{◌≤◌, ◌-◌, ℕ, ℤ, List}
 use Rattle.wrp_network.specs.Network.{node_count}
 use Rattle.wrp_course.specs.Setting.{Setting}

@@ -1,4 +1,4 @@
--- The lines of the steps from this one on are lacking.
+-- The lines of the steps from this one on are still missing.
 use Rattle.std.proofs.Common.{◌++◌, map}
 use Rattle.std.specs.List.{flat_map}
 use Rattle.wrp_course.specs.Setting.{Setting}

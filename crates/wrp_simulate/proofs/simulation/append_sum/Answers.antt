@@ -1,4 +1,4 @@
--- The line is that of the node in the world.
+-- The line is the line of the node in the world.
 use Rattle.std.proofs.Common.{◌∙◌, ap, rules}
 use Rattle.std.proofs.lemmas.Int.{to_z-of_z}
 use Rattle.std.proofs.lemmas.Result.{IfOk-weaker}

@@ -1,4 +1,4 @@
--- The steps before this one are told.
+-- The steps before this one are counted.
 use Rattle.std.proofs.Common.{◌≡◌, length}
 use Rattle.wrp_course.specs.Setting.{Setting}
 use Rattle.wrp_world.specs.StandsFor.{StandsFor}

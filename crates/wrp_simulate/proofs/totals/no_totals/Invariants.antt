@@ -1,4 +1,4 @@
--- So many totals of no line.
+-- This many totals, each of no line.
 use Rattle.std.proofs.Common.{◌≡◌, [], length}
 use Rattle.wrp_plant.specs.Plant.{Each}
 use Rattle.wrp_simulate.specs.SimStands.{IsTotal}

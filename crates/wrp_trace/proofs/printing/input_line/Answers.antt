@@ -1,4 +1,4 @@
--- The line reads back, since each line that can be printed does.
+-- The line reads back, because each line that can be printed does.
 use Rattle.std.proofs.Common.{◌∙◌, ap}
 use Rattle.wrp_trace.specs.Inputs.{read_of}
 use Rattle.wrp_trace.specs.LineSetting.{line_setting_of}

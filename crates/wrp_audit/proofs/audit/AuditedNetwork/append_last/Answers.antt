@@ -1,4 +1,4 @@
--- The counters are those of the world, and behind the inputs of a node nothing stands.
+-- The counters are the world's counters, and nothing follows the inputs of a node.
 use Rattle.std.proofs.lemmas.Result.{IfOk-weaker}
 use Rattle.wrp_audit.proofs.AuditSteps.{closes_counts, closes_none}
 use Rattle.wrp_audit.proofs.audit.AuditedNetwork.append_last.Goals as goal

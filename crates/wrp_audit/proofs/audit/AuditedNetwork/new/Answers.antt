@@ -1,4 +1,4 @@
--- The world is new, and its laws are those of the links.
+-- The world is new, and its laws are the laws of the links.
 use Rattle.wrp_audit.proofs.NewAudit.{new_can, new_has}
 use Rattle.wrp_audit.proofs.audit.AuditedNetwork.new.Goals as goal
 

@@ -1,4 +1,4 @@
--- The steps are those that are kept.
+-- The steps are the ones that are kept.
 use Rattle.std.proofs.lemmas.Result.{IfOk-weaker}
 use Rattle.wrp_audit.proofs.audit.AuditedNetwork.write.Goals as goal
 

@@ -1,4 +1,4 @@
--- The place is one for the network's events.
+-- The place can hold the network's events.
 use Rattle.std.proofs.Common.{◌∙◌, subst, sym}
 use Rattle.wrp_config.specs.declared.network.Network.{Network}
 use Rattle.wrp_trace.specs.Places.{IsPlaceOf}

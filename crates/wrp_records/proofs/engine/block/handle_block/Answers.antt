@@ -12,7 +12,7 @@ use Rattle.wrp_records.proofs.engine.block.handle_block.Goals as goal
 within_piece : (at : ℕ) (octets : List ℕ) → length octets ≤ piece_limit → length (drop at octets) ≤ piece_limit
 within_piece at octets fits = let size = length-drop at octets in omega (arith, fits, size)
 
--- a line in front of what is left behind it
+-- a line before what is left after it
 in_front : (octets left line : List ℕ) (at : ℕ) → left ≡ drop at octets → left ≡ line ++ drop (length line) left → drop at octets ≡ line ++ drop (at + length line) octets
 in_front octets left line at behind front =
     sym behind ∙ front ∙ ap (λ (l : List ℕ). line ++ l) (left_behind octets left line at behind front)

@@ -1,4 +1,4 @@
--- What is passed is held no more.
+-- What is passed is no longer held.
 use Rattle.std.proofs.Common.{◌∙◌, ◌≤◌, length, drop, sym, ap, subst}
 use Rattle.wrp_records.specs.Reader.{ReaderAt}
 use Rattle.wrp_records.proofs.ReaderLemmas.{passed_on}

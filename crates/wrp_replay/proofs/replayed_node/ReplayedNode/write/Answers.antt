@@ -1,4 +1,4 @@
--- The input is one that the node can take, and the lines are those of what it puts out.
+-- The input is one that the node can take, and the lines are the lines of what it puts out.
 use Rattle.std.proofs.Common.{rules}
 use Rattle.std.proofs.lemmas.Int.{to_z-of_z}
 use Rattle.std.proofs.lemmas.Result.{IfOk-weaker}

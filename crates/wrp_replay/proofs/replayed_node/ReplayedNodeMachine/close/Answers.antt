@@ -1,4 +1,4 @@
--- The counters are those of the run.
+-- The counters are the run's counters.
 use Rattle.wrp_replay.proofs.GoingOn.{closes_so}
 use Rattle.wrp_replay.proofs.replayed_node.ReplayedNodeMachine.close.Goals as goal
 

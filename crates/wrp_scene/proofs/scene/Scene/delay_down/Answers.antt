@@ -1,4 +1,4 @@
--- The delay of a fibre is that of its asymmetry and its delay of both ways.
+-- The delay of a fibre follows from its asymmetry and its delay of both ways.
 use Rattle.std.proofs.Common.{◌∙◌, ap₂, ◌≤◌, ◌^◌, unsigned_abs, arith}
 use Rattle.std.proofs.lemmas.Int.{ints}
 use Rattle.wrp_bounds.proofs.Counts.{read_of_size}

@@ -1,4 +1,4 @@
--- Nothing said is a scenario.
+-- With nothing said, it is a scenario.
 use Rattle.wrp_scene.proofs.SceneLemmas.{new_is_scene}
 use Rattle.wrp_scene.proofs.scene.Scene.new.Goals as goal
 

@@ -1,4 +1,4 @@
--- A line says what its parts do.
+-- A line says what its parts say.
 use Rattle.std.proofs.Common.{◌∙◌, sym}
 use Rattle.wrp_scene.specs.ScenarioLines.{scene_of}
 use Rattle.wrp_records.proofs.LineParts.{read_none, read_parts}

@@ -1,4 +1,4 @@
--- A line more is read, and nothing is written of it; or the line of its fault is.
+-- One more line is read, and nothing is written for it; or the line of its fault is written.
 use Rattle.std.proofs.Common.{ap, refl}
 use Rattle.std.proofs.lemmas.Result.{IfOk-weaker}
 use Rattle.wrp_scene_records.proofs.SceneLines.{accepts_more, refuses_so, says_more}

@@ -1,4 +1,4 @@
--- The faults before the place at hand have not come, and those from it on are still to be tried.
+-- The faults before the current place have not come, and those from it on are still to be tried.
 use Rattle.std.proofs.Common.{◌-◌, length}
 use Rattle.std.specs.List.{AllByRecursion}
 use Rattle.wrp_course.specs.Setting.{Setting}

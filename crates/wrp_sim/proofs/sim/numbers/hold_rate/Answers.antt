@@ -1,4 +1,4 @@
--- A rate held within another one is the nearer end where it lies outside.
+-- A rate held within another one is the nearer end if it lies outside.
 use Rattle.std.proofs.Common.{arith}
 use Rattle.std.proofs.lemmas.Int.{ints, clamps}
 use Rattle.wrp_sim.proofs.sim.numbers.hold_rate.Goals as goal

@@ -4,7 +4,7 @@ use Rattle.std.specs.Result.{OnOk}
 use Rattle.wrp_simulate.proofs.NewSim.{run_stays}
 use Rattle.wrp_simulate.proofs.simulation.SimulatedNetwork.happen.Goals as goal
 
--- what holds in any case holds where it went well
+-- what holds in any case holds if it went well
 in_any_case : {T E : Type 0} (P : Type 0) (r : Result T E) → P → OnOk r P
 in_any_case P (Ok value) holds = holds
 in_any_case P (Err error) holds = tt

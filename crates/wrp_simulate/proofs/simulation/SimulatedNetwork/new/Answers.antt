@@ -1,4 +1,4 @@
--- The world is new, and its laws are those of the links.
+-- The world is new, and its laws are the laws of the links.
 use Rattle.wrp_simulate.proofs.NewSim.{new_runs}
 use Rattle.wrp_network_world.proofs.NewWorld.{new_stands}
 use Rattle.wrp_simulate.proofs.simulation.SimulatedNetwork.new.Goals as goal

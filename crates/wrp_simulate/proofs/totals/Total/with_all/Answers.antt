@@ -1,4 +1,4 @@
--- Each output is told or passed over.
+-- Each output is counted or passed over.
 use Rattle.std.proofs.Common.{◌∙◌, ◌++◌, ap, map, of_z, subst, sym, to_z, ℤ, List}
 use Rattle.std.specs.Prelude.{filter}
 use Rattle.std.proofs.lemmas.Int.{to_z-of_z}

@@ -1,4 +1,4 @@
--- The outputs before this one are told.
+-- The outputs before this one are counted.
 use Rattle.wrp_simulate.proofs.SimLines.{Counted}
 use Rattle.wrp_simulate.proofs.totals.Total.with_all.Given as goal
 

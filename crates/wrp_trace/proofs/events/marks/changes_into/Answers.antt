@@ -1,4 +1,5 @@
--- A field that says nothing is the fault of all, and each other one says something of one more.
+-- A field that says nothing is the fault of all fields, and each other field says something of one
+-- more.
 use Rattle.std.proofs.Common.{◌∙◌, ◌≡◌, ◌<◌, ap, drop, length, sym, arith}
 use Rattle.csv.specs.Records.{fields_of}
 use Rattle.wrp_trace.specs.Changes.{changes_said, said_count}

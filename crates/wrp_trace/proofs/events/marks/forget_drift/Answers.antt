@@ -1,4 +1,4 @@
--- Where it was marked it is no more, and its clock does not move.
+-- If it was marked, it no longer is, and its clock does not move.
 use Rattle.std.proofs.Common.{pos}
 use Rattle.wrp_trace.specs.Places.{drifts_in}
 use Rattle.wrp_trace.proofs.PlaceLemmas.{rests_cleared}

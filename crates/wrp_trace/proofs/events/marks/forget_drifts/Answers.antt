@@ -1,4 +1,4 @@
--- Behind the last place none is marked.
+-- After the last place none is marked.
 use Rattle.std.proofs.Common.{◌∙◌, false, ap, length, refl, arith}
 use Rattle.std.proofs.lemmas.List.{length-set}
 use Rattle.wrp_trace.proofs.PlaceLemmas.{drifts_again, drifts_stay, none_at_all, none_more}

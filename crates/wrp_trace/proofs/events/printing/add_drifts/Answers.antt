@@ -8,7 +8,7 @@ use Rattle.wrp_trace.specs.EventPrinting.{further, drift_piece, drift_texts}
 use Rattle.wrp_trace.proofs.FurtherLemmas.{drift_step}
 use Rattle.wrp_trace.proofs.events.printing.add_drifts.Goals as goal
 
--- behind one more piece what is left is still to be printed
+-- after one more piece, what is left is still to be printed
 printed : (nodes : List NodeCfg) (drifts : List ℤ) (n : ℕ) (node : NodeCfg) (drift d : ℤ) (before after part all : List ℕ) → n < length nodes → length drifts ≡ length nodes
     → node ≡ get_or nodes n node → drift ≡ get_or drifts n d → part ≡ drift_piece node drift → after ≡ before ++ part
     → before ++ further (drift_texts (drop n nodes) (drop n drifts)) ≡ all → after ++ further (drift_texts (drop (n + 1) nodes) (drop (n + 1) drifts)) ≡ all

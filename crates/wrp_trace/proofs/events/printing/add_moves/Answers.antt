@@ -6,7 +6,7 @@ use Rattle.wrp_trace.specs.EventPrinting.{further, move_piece, move_texts}
 use Rattle.wrp_trace.proofs.FurtherLemmas.{move_step}
 use Rattle.wrp_trace.proofs.events.printing.add_moves.Goals as goal
 
--- behind one more piece what is left is still to be printed
+-- after one more piece, what is left is still to be printed
 printed : (links : List LinkCfg) (moves : List (ℤ × ℤ)) (l : ℕ) (link : LinkCfg) (move d : ℤ × ℤ) (before after part all : List ℕ) → l < length links → length moves ≡ length links
     → link ≡ get_or links l link → move ≡ get_or moves l d → part ≡ move_piece link move → after ≡ before ++ part
     → before ++ further (move_texts (drop l links) (drop l moves)) ≡ all → after ++ further (move_texts (drop (l + 1) links) (drop (l + 1) moves)) ≡ all

@@ -1,4 +1,4 @@
--- The line reads back, since each line that can be printed does.
+-- The line reads back, because each line that can be printed does.
 use Rattle.std.proofs.Common.{◌∙◌, ap}
 use Rattle.wrp_trace.specs.Events.{event_read}
 use Rattle.wrp_trace.proofs.EventsReadBack.{events_back}

@@ -1,4 +1,4 @@
--- The port of the swap is the one that no swap before has.
+-- The port of the swap is one that no earlier swap has.
 use Rattle.std.proofs.Common.{◌∙◌, ap}
 use Rattle.std.specs.Prelude.{◌==◌}
 use Rattle.std.specs.List.{list_any}

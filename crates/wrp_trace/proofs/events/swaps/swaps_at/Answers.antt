@@ -1,4 +1,4 @@
--- A field that says nothing is the fault of all.
+-- A field that says nothing is the fault of all fields.
 use Rattle.std.proofs.Common.{◌∙◌, ◌<◌, length, sym, ap, arith}
 use Rattle.csv.specs.Records.{fields_of}
 use Rattle.wrp_trace.specs.Swaps.{swap_said}

@@ -1,4 +1,4 @@
--- Nothing is marked any more.
+-- Nothing is marked any longer.
 use Rattle.wrp_trace.proofs.PlaceLemmas.{forgot}
 use Rattle.wrp_trace.proofs.events.marks.Marks.forget.Goals as goal
 

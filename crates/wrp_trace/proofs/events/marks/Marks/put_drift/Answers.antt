@@ -1,4 +1,4 @@
--- It is said besides, and the other clocks are as they were.
+-- It is also said, and the other clocks are as before.
 use Rattle.std.proofs.Common.{◌∙◌, ap, refl, slice_set, w64}
 use Rattle.std.proofs.lemmas.Int.{to_z-of_z}
 use Rattle.wrp_trace.specs.Places.{drifts_in}

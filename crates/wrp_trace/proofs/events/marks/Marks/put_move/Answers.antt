@@ -1,4 +1,4 @@
--- It is said besides, and the other fibres are as they were.
+-- It is also said, and the other fibres are as before.
 use Rattle.std.proofs.Common.{refl}
 use Rattle.wrp_trace.specs.Places.{moves_in}
 use Rattle.wrp_trace.proofs.PlaceLemmas.{move_said_in, put_fibres}
