@@ -54,12 +54,12 @@ pub record Came (asked : CommandLine) (input : List ℕ) (s : Setting) (events :
 
 -- The first part
 
--- a line stands next, and is so
+-- there is a next line, and it is so
 abbrev pub NextIs : List (List ℕ) → (List ℕ → Type 0) → Type 0
 NextIs behind IsSo = (line : List ℕ) × (rest : List (List ℕ)) × (behind ≡ line ∷ rest) × IsSo line
 
--- what stands behind what is written of the events, by the status: the counters, and no record is left; the line that names the
--- next record as refused, or as too large; nothing, where the source failed or there was no memory
+-- what follows what is written of the events, by the status: the counters, and no record is left; the line that names
+-- the next record as refused, or as too large; nothing, if the source failed or memory ran out
 abbrev pub EndsEvents : Status → Setting → (front behind : List (List ℕ)) → (counts last : List ℕ) → Type 0
 EndsEvents Done s front behind counts last = (behind ≡ []) × (last ≡ counts)
 EndsEvents BadTrace s front behind counts last =
@@ -72,7 +72,7 @@ EndsEvents ReadFault s front behind counts last = last ≡ []
 EndsEvents OutOfMemory s front behind counts last = last ≡ []
 EndsEvents _ s front behind counts last = ⊥
 
--- the lines of the nodes' steps in events that came, and what stands behind them
+-- the lines of the nodes' steps in events that came, and what follows them
 pub record StepsOf (asked : CommandLine) (input : List ℕ) (status : Status) (octets : List ℕ) : Type 0 where
   pub setting : Setting
   pub events : List Happened
@@ -81,8 +81,8 @@ pub record StepsOf (asked : CommandLine) (input : List ℕ) (status : Status) (o
   pub ends : EndsEvents status setting came.front came.behind (all_counts setting (world_after setting events)) last
   pub is : octets ≡ audit_lines setting events ++ last
 
--- where no record was reached, by the status: the line that names the network text as refused, or as too large; nothing, where
--- the source failed or there was no memory
+-- if no record was reached, by the status: the line that names the network text as refused, or as too large; nothing,
+-- if the source failed or memory ran out
 abbrev pub ReachesNone : List ℕ → Status → List ℕ → Type 0
 ReachesNone input BadNetwork octets =
     (length (network_text input) ≤ network_limit) × IsRefusedBy (network_text input) octets
@@ -91,7 +91,7 @@ ReachesNone input ReadFault octets = octets ≡ []
 ReachesNone input OutOfMemory octets = octets ≡ []
 ReachesNone input _ octets = ⊥
 
--- all that is due for the status; where the sink failed, the first octets of what is due for another
+-- all that is expected for the status; if the sink failed, the first octets of what is expected for another
 abbrev pub Prints : (Status → List ℕ → Type 0) → Status → List ℕ → Type 0
 Prints IsDue WriteFault octets =
     (status : Status) × (due : List ℕ) × (count : ℕ) × (octets ≡ take count due) × IsDue status due

@@ -21,7 +21,7 @@ use Rattle.wrp_audit.specs.AuditText.{event_lines}
 use Rattle.wrp_asked.specs.EventLines.{Writing}
 use Rattle.wrp_asked.specs.SimHeadline.{run_lines}
 
--- of what a node put out in an event that left this world: some line of it is one of these
+-- for what a node put out in an event that led to this world: some line is one of these
 abbrev pub LineOf : Type 1
 LineOf = Setting → WorldAt → List (List ℕ) → ℕ → Output → Type 0
 

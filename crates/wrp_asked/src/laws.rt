@@ -1,4 +1,5 @@
-//! Laws of what is due, and of audits, simulations and runs over a link: functions that do nothing, whose contracts are the laws.
+//! Laws of what is expected, and of audits, simulations and runs over a link. The functions do nothing; their contracts
+//! are the laws.
 ghost use Rattle.wrp_asked.specs.AnswerLaws.{OneAnswer, RunsPrintWithinBounds};
 ghost use Rattle.wrp_asked.specs.EmitHeadline.{EmissionsTellNoTrack};
 ghost use Rattle.wrp_asked.specs.Headline.{EventsCarryParts};
@@ -61,8 +62,8 @@ pub fn looped_events_carry_parts()
     hops_are_kept();
 }
 
-/// No line that an audit prints which is asked for the inputs of a node begins as a `track` line does, whatever its
-/// status is: not the line that names what is refused, and no line that is cut.
+/// No line of an audit that is asked for the inputs of a node begins as a `track` line does, whatever the status
+/// is: neither the line that names what is refused, nor a line that is cut.
 pub fn emissions_tell_no_track()
     ensures { EmissionsTellNoTrack }
 {
@@ -79,8 +80,8 @@ pub fn replays_are_told()
     one_run();
 }
 
-/// In each line NODE TICK track EST BOUND true OFF that a run wrote of an audit, a simulation or a run over a link, the size
-/// of OFF is at most BOUND, whatever its status is. A line that was cut off before its LF is no such line.
+/// In each line NODE TICK track EST BOUND true OFF that a run wrote of an audit, a simulation or a run over a link, the
+/// size of OFF is at most BOUND, whatever the status is. A line that was cut off before its LF is no such line.
 pub fn runs_print_within_bounds()
     ensures { RunsPrintWithinBounds }
 {

@@ -1,4 +1,4 @@
--- The port of a number stands at one place: what is done there is done to it, and to no other.
+-- The port of a number is at one place: what is done there is done to it, and to no other.
 use Rattle.std.proofs.Common.{◌≡◌, ◌≢◌, ◌∙◌, refl, ap, sym, subst, ℕ, suc, zero, ◌<◌, ◌==◌, Bool, true, false, if◌then◌else◌, List, [], ◌∷◌, length, slice_index, slice_index_or, slice_set, Option, None, Some, is_some, arith}
 use Rattle.std.proofs.lemmas.List.{length-map, get_or-map}
 use Rattle.std.specs.List.{AllByRecursion, AllZip, list_any}

@@ -168,7 +168,7 @@ few_ports net n ranges once =
     let same : length (numbers_in (ports_of net n)) ≡ length (ports_of net n) = length_map (λ (ds : PortDs). ds.own.port) (ports_of net n) in
     omega (arith, most, same)
 
--- ---- the slave port is that of the link above
+-- ---- the slave port is the port of the link above
 
 slave-link : (net : NetCfg) (link : LinkCfg) (rest : List PortDs) (above : Option LinkCfg) (a b : Bool) → slave_in rest ≡ option_map (λ (l : LinkCfg). l.lower_port) above →
     slave_in (((if a then master_at net link ∷ [] else []) ++ (if b then slave_at net link ∷ [] else [])) ++ rest)

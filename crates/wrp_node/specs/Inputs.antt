@@ -1,4 +1,4 @@
--- What the port of a number tells, where there is one.
+-- What the port of a number reports, if there is one.
 use Rattle.std.specs.Prelude.{ℕ, ◌%◌, pos, nat_lt, Bool, false, Option, None, Some}
 use Rattle.wrp_base.specs.declared.link.Deltas.{Deltas}
 use Rattle.wrp_base.specs.declared.link.LinkWord.{LinkWord}

@@ -48,7 +48,7 @@ high_of (Some law) = law.hi
 abbrev pub node_setting_of : {F : Type 0} → NodeSet → Option (LawOf F) → NodeSetting
 node_setting_of set law = record { set = set; lo = low_of law; hi = high_of law }
 
--- a port that was told nothing
+-- a port that was given no input
 pub record IsNewPlace (set : NodeSet) (ds : PortDs) (place : PortPlace) : Type 0 where
   pub number : place.number ≡ ds.own.port
   pub set_is : place.port.set ≡ setting_by set ds

@@ -97,7 +97,7 @@ abbrev pub IsSaid : Input → Result PtpMsg FrameFault → Type 0
 IsSaid (Frame p octets raw sample) says = Says octets.items says
 IsSaid _ says = Unit {0}
 
--- beside each frame stands what its octets say
+-- beside each frame is noted what its octets say
 abbrev pub AllSaid : List Taken → Type 0
 AllSaid [] = Unit {0}
 AllSaid (t ∷ before) = IsSaid t.input t.says × AllSaid before

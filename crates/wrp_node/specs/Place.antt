@@ -27,7 +27,7 @@ abbrev pub is_message : PortIn → Bool
 is_message (Msg message stamp tick) = true
 is_message _ = false
 
--- the port was told one input more: it counts why it dropped a message, and keeps what it is to send
+-- the port was given one more input: it counts why it dropped a message, and keeps what it is to send
 pub record Gives (input : PortIn) (old new : PortPlace) : Type 0 where
   pub number : new.number ≡ old.number
   pub word : new.word ≡ old.word

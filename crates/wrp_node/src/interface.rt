@@ -13,7 +13,7 @@ pub struct NodeSet {
     pub own: DefaultDs,
     /// Its ports, of different numbers, at most one of them a slave.
     pub ports: ArrayVec<PortDs, 18>,
-    /// The numbers of link setup; `wr` is that of each port.
+    /// The numbers of link setup; each port has its own `wr`.
     pub link: LinkSet,
     /// The counts of each port's schedule and of the lease.
     pub sched: Sched,
@@ -50,7 +50,7 @@ pub enum Input {
         /// The number of the last sample at its reception.
         sample: u32,
     },
-    /// The sending of one of the node's frames is told.
+    /// One of the node's frames was sent.
     Sent {
         /// The port that sent it.
         port: u16,
@@ -70,7 +70,7 @@ pub enum Input {
         /// The port's module, where the calibration database lists it.
         module: Option<Module>,
     },
-    /// The node starts anew.
+    /// The node restarts.
     Reset,
 }
 

@@ -41,7 +41,7 @@ impl Parts {
         self.dac = None;
     }
 
-    /// Tells some ports an input.
+    /// Gives an input to some ports.
     pub fn give(&mut self, to: To, input: &PortIn)
         requires { IsFit input.now }
         ensures { Leads (given to input.now) self.old self.new }
@@ -60,7 +60,7 @@ impl Parts {
     }
 
     /// Takes what the servo answered to a call: its news go to the slave port, its refusal to the
-    /// counters. `number` is that of the sample, where the call was one.
+    /// counters. `number` is the number of the sample, if the call was a sample.
     pub fn take_answer(&mut self, out: &ServoOut, number: u32)
         requires { IsReason out.now.refused }
         ensures { AnswerTaken out.now number self.old self.new }
@@ -69,7 +69,7 @@ impl Parts {
         self.command(out);
     }
 
-    // What the slave port is told of it.
+    // Gives the slave port its part of the answer.
     fn tell_slave(&mut self, out: &ServoOut, number: u32)
         requires { IsReason out.now.refused }
         ensures { Leads (slave_told out.now number) self.old self.new }

@@ -41,7 +41,7 @@ pub struct PortPlace {
 }
 
 impl PortPlace {
-    /// A port that was told nothing, and counted nothing.
+    /// A port that was given no input, and counted nothing.
     pub fn new(number: u16, port: Port) -> PortPlace
         ensures number { result.number ≡ number }
         ensures port { result.port ≡ port }
@@ -66,7 +66,7 @@ impl PortPlace {
         self.sends.clear();
     }
 
-    /// Tells the port an input. Those that come most often have a call of their own, which copies less.
+    /// Gives the port an input. The most frequent inputs have a call of their own, which copies less.
     pub fn tell(&mut self, input: &PortIn)
         requires { IsFit input.now }
         ensures { Gives input.now self.old self.new }
@@ -79,7 +79,7 @@ impl PortPlace {
         }
     }
 
-    // Tells the port an input of whatever kind.
+    // Gives the port an input of any kind.
     fn tell_other(&mut self, input: &PortIn)
         requires { IsFit input.now }
         ensures { Gives input.now self.old self.new }
@@ -89,7 +89,7 @@ impl PortPlace {
         self.keep();
     }
 
-    // Tells the port a tick.
+    // Gives the port a tick.
     fn tick(&mut self, locked: bool, certain: bool)
         ensures { Gives (port.Tick locked certain) self.old self.new }
     {
@@ -104,7 +104,7 @@ impl PortPlace {
         self.port.turn_lease();
     }
 
-    // Tells the port a good sample.
+    // Gives the port a good sample.
     fn take_sample(&mut self, n: u32, u: i64)
         ensures { Gives (port.Sample n u) self.old self.new }
     {

@@ -17,7 +17,7 @@ pub fn sends_are_few()
     ensures { SendsAreFew }
 {}
 
-/// A tick counts one, a reset counts anew, and no other input changes the count.
+/// A tick adds one to the count, a reset restarts it, and no other input changes it.
 pub fn ticks_are_counted()
     ensures { TicksAreCounted }
 {}
