@@ -1,4 +1,4 @@
--- What an audit that was asked for the inputs of a node wrote are these, and what stands behind them, by its status.
+-- What an audit that was asked for the inputs of a node wrote is these inputs, and what follows them, by its status.
 use Rattle.std.proofs.Common.{◌≡◌, ◌⊎◌, inl, inr, refl, sym, subst, ℕ, Option, None, Some, IfSome, List, [], ◌++◌}
 use Rattle.std.specs.Io.KnownBytes.{Appends}
 use Rattle.wrp_course.specs.Setting.{Setting}

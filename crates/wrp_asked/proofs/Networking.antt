@@ -19,7 +19,7 @@ use Rattle.wrp_records.specs.Reached.{Reached}
 use Rattle.wrp_records.proofs.NextLines.{next_line, cut_line}
 use Rattle.wrp_records.proofs.Reaching.{Coming, comes, whole_before, next_some, goes_on_with, lines_behind, concat-snoc}
 
--- the lines are those of a network text so far
+-- the lines are the lines of a network text so far
 pub record NetworkLines (lines : List (List ℕ)) (text : List ℕ) : Type 0 where
   pub none : AllByRecursion (λ line. is_separator line ≡ false) lines
   pub is : text ≡ concat lines
@@ -28,7 +28,7 @@ pub record NetworkLines (lines : List (List ℕ)) (text : List ℕ) : Type 0 whe
 abbrev pub Anything : List (List ℕ) → Type 0
 Anything lines = Unit {0}
 
--- the lines so far are those of the network text
+-- the lines so far are the lines of the network text
 pub record Networked (r : ReaderAt) (left rest : Option (List ℕ)) (text : List ℕ) : Type 0 where
   pub number : ℕ
   pub so_far : Reached NetworkLines Anything [] r left rest None None text number

@@ -182,8 +182,8 @@ first_told : (input octets : List ℕ) (site : LineSetting) → StandsFirst (mea
 first_told input octets site (inl first) = firsts input octets site first
 first_told input octets site (inr off) = absurd off.broken
 
--- where the source failed: the network text of the whole input is the one that came, and the whole records among what was taken are
--- told
+-- if the source failed: the network text of the whole input is the one that came, and the whole records among what was
+-- taken are reported
 cut_told : (input taken left octets : List ℕ) (site : LineSetting) (front back text : List ℕ) → input ≡ taken ++ left → taken ≡ front ++ back
     → Divides front text → CutHandled (Accepts site) back octets →
     (network_text input ≡ text) × Tells input site ReadFault octets

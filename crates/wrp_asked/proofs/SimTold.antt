@@ -1,4 +1,4 @@
--- What a simulation wrote are the lines of the events that its rules make, and what stands behind them, by its status.
+-- What a simulation wrote is the lines of the events that its rules make, and what follows them, by its status.
 use Rattle.std.proofs.Common.{◌≡◌, ◌⊎◌, inl, inr, ◌∙◌, refl, ap, sym, subst, ℕ, ◌+◌, Option, None, Some, IfSome, List, [], ◌++◌, append-nil, length, map}
 use Rattle.std.specs.Io.KnownBytes.{Appends}
 use Rattle.wrp_course.specs.Setting.{Setting}
@@ -40,7 +40,7 @@ unlooped seed own e = cc
 
 -- Records
 
--- behind lines of a scenario nothing is written but what stands at the end
+-- after lines of a scenario nothing is written but what comes at the end
 only_last : (written last octets : List ℕ) → written ≡ [] → octets ≡ written ++ last → octets ≡ last
 only_last written last octets none is = is ∙ ap (λ (l : List ℕ). l ++ last) none
 

@@ -7,7 +7,7 @@ use Rattle.wrp_records.specs.Lines.{lines_of, onto}
 abbrev pub HoldsInFront : (List ℕ → Type 0) → Type 0
 HoldsInFront P = (line rest : List ℕ) → P (line ++ rest) → P line
 
--- one holds of the first line, and the other of those behind it
+-- one holds of the first line, and the other of the lines after it
 abbrev FirstAndOthers : (List ℕ → Type 0) → (List ℕ → Type 0) → List (List ℕ) → Type 0
 FirstAndOthers Q P [] = Unit {0}
 FirstAndOthers Q P (line ∷ lines) = Q line × AllByRecursion P lines

@@ -142,7 +142,7 @@ LoopedEventsCarryParts =
     (asked : CommandLine) (input : List ℕ) (calls : List LinkCall) (s : Setting) (last : Going) →
     Looped asked input calls s last → CarriesRun event_lines s (events_at (place last))
 
--- of a run over a link that ended with this status and wrote these octets, if the link made these calls
+-- of a run over a link that ended with this status and wrote these octets, if the link reports these calls
 pub record LoopHeadline (asked : CommandLine) (input : List ℕ) (calls : List LinkCall) (status : Status) (octets : List ℕ)
     : Type 0 where
   pub prints : PrintsTheLoop asked input calls status octets

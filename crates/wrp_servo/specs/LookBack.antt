@@ -1,4 +1,5 @@
--- What stands after a list of calls, found by looking back over it, and the causes asked there (this project's profile).
+-- What a servo holds after a list of calls, found by looking back over it, and the causes judged there (this project's
+-- profile).
 use Rattle.std.specs.Prelude.{ℕ, ℤ, pos, ◌-◌, max, Bool, cond, not, ◌&&◌, ◌||◌, is_some, Option, None, Some, List, [], ◌∷◌}
 use Rattle.wrp_phase.specs.Unwrapping.{last_tag, unwrapped}
 use Rattle.wrp_servo.specs.declared.machine.Core.{Core}
@@ -30,9 +31,10 @@ last_told x (CallReset ∷ calls) = 0
 last_told x (CallSample n base bits ∷ calls) = cond (hears (run x calls)) (max (last_told x calls) n) (last_told x calls)
 last_told x (_ ∷ calls) = last_told x calls
 
--- what stands after a list of calls: carrier, link and lease as they were told last, the ticks and those since the
+-- what a servo holds after a list of calls: carrier, link and lease as last given, the ticks and the ticks since the
 -- last good sample as they are counted, the greatest number of a sample, and the phase as a sum of tags. The state, the
--- chain, the four, the calm count, the setpoint, its goal, the controller and the detector are those of the rows.
+-- chain, the four, the calm count, the setpoint, its goal, the controller and the detector are the ones that the rows
+-- give.
 abbrev pub seen : ServoSetting → List Call → Core
 seen x calls = record (run x calls) {
   signals = record { carrier = carrier_told calls; link = link_told calls; lease = lease_told calls };
@@ -49,7 +51,7 @@ seen x calls = record (run x calls) {
   };
 }
 
--- a call starts a chain, where none stands
+-- a call starts a chain, if there is none
 abbrev pub chain_starts : ServoSetting → List Call → Call → Bool
 chain_starts x calls call = not (is_some (run x calls).first) && starts x (seen x calls) call
 

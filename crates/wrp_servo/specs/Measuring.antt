@@ -93,7 +93,7 @@ placed v k = placed_in (record v { kept = Some k }) k (est_of v.phase.u k) v.sta
 abbrev pub kept_of : Four → Deltas → ℤ → Measurement
 kept_of f d y = record { four = f; delay = delay_of d y }
 
--- the deltas by which a four is measured: none where no chain stands
+-- the deltas by which a four is measured: none if there is no chain
 abbrev pub deltas_in_chain : Core → Option Deltas
 deltas_in_chain v = option_and_then (λ _. v.signals.link) v.first
 

@@ -32,15 +32,15 @@ is_far u = nat_le (2 ^ 60) (unsigned_abs u)
 abbrev pub is_within : ℤ → ℤ → Bool
 is_within limit x = int_le (pos (unsigned_abs x)) limit
 
--- est, by the four that stands
+-- est, by the kept four
 abbrev pub est_of : ℤ → Measurement → ℤ
 est_of u k = ((k.four.t2 -ℤ k.four.t1) -ℤ k.delay) +ℤ (u -ℤ k.four.u2)
 
--- the residual r, by the four that stands
+-- the residual r, by the kept four
 abbrev pub residual : PhaseLoop → Measurement → ℤ
 residual l k = est_of l.u k -ℤ e_tau l
 
--- the size of the residual, by the four that stands, is at most the limit, in tau; without a four this is true
+-- the size of the residual, by the kept four, is at most the limit, in tau; without a four this is true
 abbrev pub is_near : ℤ → PhaseLoop → Option Measurement → Bool
 is_near limit l None = true
 is_near limit l (Some k) = is_within limit (residual l k)
@@ -53,7 +53,7 @@ is_calm v = is_within v.set.loop_tau (e_tau v.phase)
 abbrev pub stays_near : Core → Bool
 stays_near v = is_calm v && is_near v.set.track_tau v.phase v.kept
 
--- a chain may start: none stands, the link is on, and the lease is fresh
+-- a chain may start: there is none, the link is on, and the lease is fresh
 abbrev pub may_start : Core → Bool
 may_start v = not (is_some v.first) && (is_some v.signals.link && v.signals.lease)
 
@@ -69,7 +69,7 @@ judged_in v WaitStable = record v { calm = cond (is_calm v) (min v.set.stable (v
 judged_in v Track = cond (stays_near v) v (ended v)
 judged_in v _ = v
 
--- what the state that stands once the chain was looked at makes of a good sample
+-- what the state, as it is once the chain was looked at, makes of a good sample
 abbrev pub judged : Core → Core
 judged v = judged_in v v.state
 

@@ -1,4 +1,5 @@
--- Looking back over a list of calls, the newest at its head: something stands where a call starts it and none after that ends it.
+-- Looking back over a list of calls, the newest at its head: something holds if a call starts it and no later call ends
+-- it.
 use Rattle.std.specs.Prelude.{◌≡◌, Bool, true, false, List, [], ◌∷◌, ◌++◌}
 use Rattle.wrp_servo.specs.Call.{Call}
 

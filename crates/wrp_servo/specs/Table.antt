@@ -32,7 +32,7 @@ ended_in v SyncPhase = record v { state = SyncTai; first = None; kept = None }
 ended_in v WaitStable = record v { state = SyncTai; first = None; kept = None }
 ended_in v _ = record v { first = None; kept = None }
 
--- the chain ends, where one stands
+-- the chain ends, if there is one
 abbrev pub ended : Core → Core
 ended v = cond (is_some v.first) (ended_in v v.state) v
 
@@ -108,7 +108,7 @@ abbrev pub too_old : ℕ → ℕ → Option Measurement → Bool
 too_old age ticks None = false
 too_old age ticks (Some k) = nat_lt age (ticks - k.four.tick)
 
--- the four that stands is more than `age` ticks old; without a four this is false
+-- the kept four is more than `age` ticks old; without a four this is false
 abbrev pub is_old : Core → Bool
 is_old v = too_old v.set.age v.ticks v.kept
 

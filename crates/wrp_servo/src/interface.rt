@@ -1,7 +1,7 @@
 //! What a servo is set to, and what it answers.
 use wrp_base::{ChainNews, Clock, Tau};
 
-/// The settings of a servo (this project's profile; the ranges are those of a network file).
+/// The settings of a servo (this project's profile; the ranges are the same as in a network file).
 #[derive(Clone, Copy, Debug, PartialEq, Eq)]
 pub struct ServoSet {
     /// How long HOLDOVER lasts, in ticks: 2 to `10^6`.
