@@ -1,4 +1,4 @@
--- A network passes the check exactly where it keeps each inequality.
+-- A network passes the check if and only if it keeps each inequality.
 use Rattle.std.proofs.Common.{◌≡◌, ℕ, pos, zero, suc, ◌+◌, ◌*◌, ◌<◌, ◌≤◌, refl, ap, ap₂, sym, ◌∙◌, List, [], ◌∷◌, Bool, false, not, Option, Some, None, length, arith}
 use Rattle.std.proofs.lemmas.Int.{ints}
 use Rattle.std.specs.Prelude.{find, int_lt}
@@ -29,7 +29,7 @@ less_keeps a b is = grind (arith, ints)
 at_most_keeps : (a b : ℕ) → a ≤ b → not (not (int_lt (pos b) (pos a))) ≡ false
 at_most_keeps a b is = grind (arith, ints)
 
--- the same of what may stand first
+-- the same of an element that may come first
 some_passed : {X : Type 0} (p : X → Bool) (o : Option X) (xs : List X) → find p (cons_option o xs) ≡ None → ((x : X) → o ≡ Some x → p x ≡ false) × (find p xs ≡ None)
 some_passed p None xs none = (λ x is. absurd (cc), none)
 some_passed p (Some y) xs none =
@@ -75,13 +75,13 @@ none_passes : {X : Type 0} (p : X → Bool) (xs : List X) → FailsEach p xs →
 none_passes p [] fails = refl
 none_passes p (x ∷ xs) fails = passes_first p x xs fails.0 (none_passes p xs fails.1)
 
--- of three searches in a row none finds anything exactly where each finds nothing
+-- of three searches in a row none finds anything if and only if each finds nothing
 none_of_three : {X : Type 0} (a b c : Option X) → option_or (option_or a b) c ≡ None → (a ≡ None) × (b ≡ None) × (c ≡ None)
 none_of_three None None c none = (refl, refl, none)
 none_of_three None (Some x) c none = absurd (cc)
 none_of_three (Some x) b c none = absurd (cc)
 
--- the third inequality at a node is that of the node's hop
+-- the third inequality at a node is the third inequality of the node's hop
 room_of : (net : NetCfg) (o : Option HopNumbers) (room : Inequality) → option_map (phase_room net) o ≡ Some room → (k : HopNumbers) × (o ≡ Some k) × (phase_room net k ≡ room)
 room_of net None room is = absurd (cc)
 room_of net (Some k) room is = (k, refl, cc)

@@ -1,4 +1,4 @@
--- The path of a child, and that of the grandmaster.
+-- The path of a child, and the path of the grandmaster.
 use Rattle.std.proofs.Common.{◌≡◌, ℕ, zero, suc, ◌+◌, ◌≤◌, refl, ap, sym, subst, ◌∙◌, List, ◌∷◌, Option, Some, None, arith}
 use Rattle.std.specs.Prelude.{sum_by}
 use Rattle.std.specs.Option.{option_map_or, option_and_then}

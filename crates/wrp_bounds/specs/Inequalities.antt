@@ -95,7 +95,7 @@ inequalities net =
     (tick_times net ∷ (holdoff_time net ∷ (flight_time net ∷
     (lock_counts net ∷ (id_reuse net ∷ (port_delays net ∷ []))))))
 
--- what is told of an inequality that is broken
+-- what is reported of an inequality that is broken
 abbrev pub clash_of : Inequality → Clash
 clash_of i = record { number = i.number; left = i.left; right = i.right }
 

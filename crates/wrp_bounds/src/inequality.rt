@@ -68,7 +68,7 @@ impl Inequality {
         }
     }
 
-    // What is told of it where it is broken.
+    // What is reported of it if it is broken.
     pub fn clash(&self) -> Clash
         ensures { result ≡ clash_of self.now }
     {

@@ -73,8 +73,8 @@ impl Exchange {
         self.renew(None);
     }
 
-    /// Makes the exchange one without calls: beside what a clear drops it forgets the ticks that were
-    /// told, which may start anew.
+    /// Makes the exchange one without calls. It drops what a clear drops, and also forgets the ticks
+    /// that it was given, which may restart.
     pub fn reset(&mut self)
         ensures { (ring : ℕ) (calls : List Call) → StandsFor ring self.old calls →
             StandsFor ring self.new [] }
@@ -93,9 +93,9 @@ impl Exchange {
         });
     }
 
-    /// Takes a Sync with its correctionField, the stamp of its reception and the tick at which it
-    /// was handed over. Answers whether it was kept: where a chain stands, and the stamp's sample is
-    /// at or after the chain's start and is still known. It then takes the place of an earlier one.
+    /// Takes a Sync with its correctionField, the stamp of its reception and the tick at which it was
+    /// handed over. Returns whether it was kept: it is if there is a chain, and the stamp's sample is at
+    /// or after the chain's start and is still known. It then takes the place of an earlier one.
     pub fn sync(&mut self, seq: u16, correction: i64, t2: Stamp, tick: u32) -> bool
         requires { unsigned_abs t2.value < 2 ^ 104 }
         ensures kept { (ring : ℕ) (calls : List Call) → StandsFor ring self.old calls →
@@ -145,9 +145,9 @@ impl Exchange {
         self.delay.ask(self.first.map(|_| seq));
     }
 
-    /// Takes the stamp of a Delay_Req's sending and the tick at which it was told. Answers whether it
-    /// was kept: where it is of the last request, no sending of that was kept before, and the
-    /// stamp's sample is at or after the chain's start and is still known.
+    /// Takes the stamp of a Delay_Req's sending and the tick at which the sending was given. Returns
+    /// whether it was kept: it is if it belongs to the last request, no sending of that request was kept
+    /// before, and the stamp's sample is at or after the chain's start and is still known.
     pub fn req_sent(&mut self, seq: u16, t3: Stamp, tick: u32) -> bool
         requires { unsigned_abs t3.value < 2 ^ 104 }
         ensures kept { (ring : ℕ) (calls : List Call) → StandsFor ring self.old calls →
@@ -180,18 +180,18 @@ impl Exchange {
         self.delay.answer(seq, t4)
     }
 
-    /// The newest matched four; None exactly where one of the two pairs is missing since the chain's
+    /// The newest matched four; None if and only if one of the two pairs is missing since the chain's
     /// start.
     pub fn four(&self) -> Option<Four>
         ensures value { (ring : ℕ) (calls : List Call) → StandsFor ring self.now calls →
             result ≡ four_of ring calls }
         ensures times { IfSome result HasTimes }
 
-        // Its tick is one that was told.
+        // Its tick is one that was given.
         ensures told { (ring tick : ℕ) (calls : List Call) → StandsFor ring self.now calls →
             NoneAfter tick calls → IfSome result (λ four. four.tick ≤ tick) }
 
-        // As long as the ticks that are told do not fall, it is not older than any four before it.
+        // As long as the given ticks do not fall, it is not older than any four before it.
         ensures rises { (ring : ℕ) (since calls : List Call) →
             StandsFor ring self.now (since ++ calls) →
             TicksRise (since ++ calls) →
@@ -209,8 +209,8 @@ impl Exchange {
         self.delay = DelayHalf::new();
     }
 
-    // The phase at the sample that a stamp latched, in tau, where a chain stands, the sample is at
-    // or after its start, and the ring still has it.
+    // The phase at the sample that a stamp latched, in tau, if there is a chain, the sample is at or
+    // after its start, and the ring still has it.
     fn latched_phase(&self, sample: u32) -> Option<i64>
         ensures { result ≡ phase_since self.now.first self.now.ring.items sample }
     {

@@ -23,7 +23,7 @@ is_past x z test = grind (arith, ints)
 pub eased : (x z : ℤ) → x <ℤ z → x ≤ℤ z
 eased x z h = omega (arith, ints)
 
--- the value is at least that of the first point
+-- the value is at least the first point's
 table_value-from : (start : ℤ × ℤ) (points : List (ℤ × ℤ)) (x : ℤ) → Rises (start ∷ points) → start.0 ≤ℤ x → start.1 ≤ℤ table_value (start ∷ points) x
 table_value-from start [] x rises after = omega (arith, ints)
 table_value-from start (end ∷ points) x rises after =
@@ -91,7 +91,7 @@ pub table_value-near : (kappa : ℤ) (err : ℕ) (points : List (ℤ × ℤ)) (x
 table_value-near kappa err [] x size least rises first last near = absurd (none least)
 table_value-near kappa err (start ∷ points) x size least rises first last near = near_from kappa err start points x size rises first last near
 
--- the x of the last point is where it stands
+-- the x of the last point is at its place
 pub last_x-at : (points : List (ℤ × ℤ)) → last_x points ≡ (get_or points (length points - 1) (pos 0, pos 0)).0
 last_x-at [] = refl
 last_x-at (point ∷ []) = refl

@@ -83,7 +83,7 @@ impl<F: Fn(i64) -> i64> DelayLaw<F> {
         self.err
     }
 
-    /// Which exact fraction the law stands for.
+    /// Which exact fraction the law represents.
     pub fn kind(&self) -> LawKind
         ensures { result ≡ self.now.kind }
     {

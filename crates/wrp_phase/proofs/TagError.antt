@@ -66,11 +66,11 @@ near_tag clock base count beat phase h least most =
     (subst (λ z. (z -ℤ pos beat) ≤ℤ pos count) past least)
     (subst (λ z. pos count ≤ℤ (z +ℤ pos beat)) past most)
 
--- what the detector tells is the tag of a sample that is not glitched
+-- what the detector reports is the tag of a sample that is not glitched
 told : (base bits tag : ℕ) → deglitched base bits ≡ Some tag → (8 ≤ leading_zeros w64 bits) × (8 ≤ trailing_ones w64 bits) × (tag ≡ tag_of base bits)
 told base bits tag is = grind (arith, nat_tests)
 
--- a tag that the detector tells is within its error of the true phase, round the period
+-- a tag that the detector reports is within its error of the true phase, round the period
 pub tag-within_detector_error : TagWithinDetectorError
 tag-within_detector_error clock base bits beat tag phase h fits pattern is =
     let read : (8 ≤ leading_zeros w64 bits) × (8 ≤ trailing_ones w64 bits) × (tag ≡ tag_of base bits) = told base bits tag is in

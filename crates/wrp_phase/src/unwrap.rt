@@ -79,7 +79,7 @@ fn addend(clock: Clock, before: Option<u16>, tag: u16) -> i64
     }
 }
 
-// The difference of the phases that two tags tell, brought into half a period on either side.
+// The difference of the phases that two tags show, brought into half a period on either side.
 fn difference_round(clock: Clock, before: u16, tag: u16) -> i64
     ensures value { result ≡ added_by clock (Some before) tag }
     ensures size { unsigned_abs result ≤ 2 ^ 29 }

@@ -1,4 +1,6 @@
--- What stands at a port after a list of inputs, by looking back over the list from the newest: the inputs that reached its link, the lease, the ticks of its schedule, how many messages of each kind it sent, and the pieces that reached its exchange (this project's profile).
+-- What a port holds after a list of inputs, by looking back over the list from the newest: the inputs that reached its
+-- link, the lease, the ticks of its schedule, how many messages of each kind it sent, and the pieces that reached its
+-- exchange (this project's profile).
 use Rattle.std.specs.Prelude.{ℕ, ◌+◌, ◌-◌, ◌%◌, ◌&&◌, Bool, true, false, if◌then◌else◌, nat_lt, List, [], ◌∷◌, length, option_map, Option, None, Some}
 use Rattle.std.specs.Option.{is_none}
 use Rattle.wrp_base.specs.declared.message.PtpMsg.{PtpMsg}

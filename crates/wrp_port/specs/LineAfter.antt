@@ -39,7 +39,7 @@ first_ids = record { announce = 0; sync = 0; request = 0; signal = 0; newest_syn
 abbrev pub new_line : Setting → Rest
 new_line set = record { link = new_link set.ds.role set.link; lease = 0; turns = first_turns; ids = first_ids }
 
--- the schedule of a port with this link: it begins anew where the port is not open
+-- the schedule of a port with this link: it restarts if the port is not open
 abbrev pub turns_while : LinkAt → Turns → Turns
 turns_while l turns = if is_open l then turns else first_turns
 

@@ -80,12 +80,12 @@ abbrev pub sends_unless : Option Reason → Setting → Rest → PtpMsg → Stam
 sends_unless None set line message stamp = heard_sends set line message stamp
 sends_unless (Some reason) set line message stamp = []
 
--- whether a sequenceId is that of the newest Sync
+-- whether the newest Sync has this sequenceId
 abbrev pub is_newest : Option ℕ → ℕ → Bool
 is_newest None seq = false
 is_newest (Some newest) seq = newest == seq
 
--- the sending of the newest Sync, told while the port is open, gives its Follow_Up
+-- the sending of the newest Sync, given while the port is open, makes its Follow_Up
 abbrev pub follow_ups : Setting → Rest → ℕ → Stamp → List PtpMsg
 follow_ups set line seq stamp =
     where_due (is_newest line.ids.newest_sync seq && is_open line.link) (follow_up_of set seq stamp)
@@ -164,7 +164,7 @@ abbrev pub with_call : Option Call → List Call → List Call
 with_call None calls = calls
 with_call (Some call) calls = call ∷ calls
 
--- the four stamps that a piece makes, where it makes a pair and both pairs stand
+-- the four stamps that a piece makes, if it makes a pair and both pairs are there
 abbrev pub four_by : ℕ → List Call → Option Call → Option Four
 four_by ring calls piece =
     if pairs piece && is_kept ring calls piece then four_of ring (with_call piece calls) else None

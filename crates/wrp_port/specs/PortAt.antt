@@ -57,7 +57,7 @@ abbrev pub rx_of : Option Module → ℕ
 rx_of None = 0
 rx_of (Some own_module) = own_module.rx
 
--- the four delays of a link: the peer's, and those of the own module
+-- the four delays of a link: the peer's, and the own module's
 abbrev pub deltas_by : Option (ℕ × ℕ) → Option Module → Deltas
 deltas_by None own_module = record { txm = 0; rxm = 0; txs = tx_of own_module; rxs = rx_of own_module }
 deltas_by (Some (tx, rx)) own_module = record { txm = tx; rxm = rx; txs = tx_of own_module; rxs = rx_of own_module }

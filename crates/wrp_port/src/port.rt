@@ -163,9 +163,9 @@ impl Port {
         self.line.lease > 0
     }
 
-    /// The four delays of the link, each in tau: Some exactly for a slave port in WR_LINK_ON. The
-    /// master's are those that it told in this handshake. None at a master, and in each other state of
-    /// the link. The port stays as it is.
+    /// The four delays of the link, each in tau: Some if and only if this is a slave port in WR_LINK_ON.
+    /// The master's delays are the ones that it reported in this handshake. None at a master, and in
+    /// each other state of the link. The port stays as it is.
     pub fn deltas(&self) -> Option<Deltas>
         ensures value { result ≡ deltas_of self.now.set.ds.role self.now.line.link }
         ensures told { (inputs : List PortIn) → StandsFor self.now inputs →
