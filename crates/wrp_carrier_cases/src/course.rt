@@ -157,7 +157,7 @@ fn run_worlds<F: Fn(i64) -> i64>(
     run_scene(alloc, &mut trial, &mut twin, text.as_str(), counts)
 }
 
-/// Runs a plan: nothing is told where each event was taken, and each test held.
+/// Runs a plan: nothing is reported if each event was taken, and each test held.
 pub fn run_plan(alloc: Global, plan: Plan, counts: &mut Counts) -> Result<(), Failure> {
     let down = |x: i64|
         requires { unsigned_abs x ≤ 2 ^ 53 }

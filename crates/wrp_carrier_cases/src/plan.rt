@@ -36,7 +36,7 @@ impl Plan {
         }
     }
 
-    /// The lines of its scenario: both ways of the upper fibre take 100 us, those of the lower one 50 us.
+    /// The lines of its scenario: both ways of the upper fibre take 100 us, both ways of the lower one 50 us.
     pub fn scenario(&self, alloc: Global) -> Result<String, AllocError> {
         let back = self.moment.saturating_add(500);
         let end = self.moment.saturating_add(1_000);

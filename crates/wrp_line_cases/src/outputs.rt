@@ -1,5 +1,5 @@
-//! Cases on the lines that a run writes: each line behind `---` is something of the node that the word names, and the
-//! line that is written of it is due.
+//! Cases on the lines that a run writes: each line after `---` is something of the node that the word names, and the
+//! line that is written of it is expected.
 //!
 //!     TICK send PORT HEX, TICK step CYCLES, TICK dac VALUE         what it puts out at a tick
 //!     TICK link PORT WORD, TICK servo STATE, TICK track EST        what it reports at a tick

@@ -1,6 +1,6 @@
-//! Cases on a node. Its word names the node (`sets`); the law of its link, where it has a slave port, is that both ways
+//! Cases on a node. Its word names the node (`sets`); the law of its link, if it has a slave port, is that both ways
 //! are equal. A line of the input is what happens at the node, as `replay` takes it, and what the node puts out is
-//! told; behind all lines come the counters that are not 0 (`inputs` and `lines` have both).
+//! printed; after all lines come the counters that are not 0 (`inputs` and `lines` have both).
 ghost use Rattle.std.specs.Prelude.{◌≡◌, ◌≤◌, ◌^◌, unsigned_abs, IfOk};
 ghost use Rattle.wrp_law.specs.Law.{KeepsFact};
 ghost use Rattle.wrp_node.specs.Node.{IsValid};

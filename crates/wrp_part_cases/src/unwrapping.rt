@@ -1,5 +1,5 @@
-//! `unwrap`: the word is the period of the clock in ps, and the numbers are tags (`machines`). The unwrapped phase after each
-//! is due.
+//! `unwrap`: the word is the period of the clock in ps, and the numbers are tags (`machines`). The unwrapped phase
+//! after each is expected.
 ghost use Rattle.std.specs.Prelude.{◌≡◌};
 
 use crate::machines::{Machine, answer_of};
