@@ -1,5 +1,4 @@
--- The place in a network file that a refusal names is one word: the names of tables and keys are words, and so are
--- numbers.
+-- The place in a network file that a refusal names is one word: names of tables and keys are words, and so are numbers.
 use Rattle.std.proofs.Common.{◌≡◌, inl, inr, refl, sym, subst, ℕ, ◌+◌, Bool, true, false, if◌then◌else◌, find, List, [], ◌∷◌, ◌++◌, map, take, Option, None, Some, option_map, codes}
 use Rattle.std.specs.Prelude.{Err, option_and_then}
 use Rattle.std.specs.Fmt.{decimal, signed_decimal}

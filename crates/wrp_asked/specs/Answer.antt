@@ -51,8 +51,7 @@ TaskAnswer asked input calls status octets =
     × RecordsAnswer (meaning_at task) (behind_separator (lines_of input)) status octets
     × (calls ≡ [])
 
--- after the records of a loop, which together are the records of a scenario: the calls of its link decide what is
--- expected
+-- after the records of a loop, which are all the records of a scenario: its link's calls decide what is expected
 abbrev pub LoopDue : Setting → ℕ → List (List ℕ) → List LinkCall → Status → List ℕ → Type 0
 LoopDue s seed lines calls Done octets = IsWholly (loop_of s seed calls) lines octets
 LoopDue s seed lines calls TooLarge octets = BreaksOff (loop_of s seed calls) TooLarge lines octets

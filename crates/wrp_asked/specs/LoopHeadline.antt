@@ -77,8 +77,8 @@ pub record LoopOf (asked : CommandLine) (input : List ℕ) (calls : List LinkCal
   pub ends : StandsBehind status (plan_of setting came.scene came.seed) calls came.later last behind
   pub is : octets ≡ came_lines setting (events_at (place last)) ++ behind
 
--- a line of its records is refused, or too large: only its line is written, after lines of a scenario, and no call is
--- made
+-- after lines of a scenario a line of its records is refused, or too large: only the line that names it is written,
+-- and no call is made
 pub record LacksScene (asked : CommandLine) (input : List ℕ) (calls : List LinkCall) (status : Status) (octets : List ℕ)
     : Type 0 where
   pub setting : Setting

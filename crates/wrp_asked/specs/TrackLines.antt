@@ -15,8 +15,7 @@ use Rattle.wrp_asked.specs.EventLines.{AtEachEvent, Writing}
 use Rattle.wrp_records.specs.Lines.{lines_of}
 
 -- these words are a node's name, an estimate, a bound and an offset from true time: the bound is the bound of the
--- node's path, the offset is the node's and is within the bound, and the estimate is near the node's offset from its
--- parent
+-- node's path, the offset is the node's and is within it, and the estimate is near the node's offset from its parent
 pub record TellsTruth (s : Setting) (w : WorldAt) (node est bound off : List ℕ) : Type 0 where
   pub number : ℕ
   pub estimate : ℤ

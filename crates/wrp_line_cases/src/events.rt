@@ -1,6 +1,6 @@
 //! Cases on `read_event` and `event_line`: for each line after `---`, what happens is expected, and then the line
-//! that this is printed as; or why it is refused. Nodes and links are named by their places in the network, from
-//! 0.
+//! that this is printed as; or why it is refused. Nodes and links are named by their places in the network,
+//! counted from 0.
 ghost use Rattle.wrp_config.specs.Accepted.{IsAccepted};
 ghost use Rattle.wrp_course.specs.EventAt.{IsEventOf};
 

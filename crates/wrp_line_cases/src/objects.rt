@@ -1,6 +1,5 @@
 //! Cases on the objects of the outside. The words say which object it is, what it holds or has room for, and which of
-//! its calls fails, 0 for none. Each line is a call; its answer is expected, and at the end what the object then
-//! reports.
+//! its calls fails, 0 for none. Each line is a call; its answer is expected, and what the object reports at the end.
 //!
 //!     source OCTETS N, sink ROOM N, link CALLS N     the objects in memory; `carrying` has the calls of a link
 //!     bytes OCTETS, vec                              the adapters over octets, and over a vector

@@ -1,5 +1,4 @@
--- The servo is given a call: it answers, and its answer goes to the slave port and to the counters (this project's
--- profile).
+-- The servo is given a call: its answer goes to the slave port and to the counters (this project's profile).
 use Rattle.std.specs.Prelude.{ℕ, ℤ, pos, ◌==◌, Bool, true, false, if◌then◌else◌, not, unsigned_abs, List, [], ◌∷◌, Option, None, Some, is_some}
 use Rattle.std.specs.Option.{option_or}
 use Rattle.wrp_base.specs.declared.measurement.ChainNews.{ChainNews}

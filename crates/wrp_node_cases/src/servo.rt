@@ -1,6 +1,5 @@
 //! Cases on a servo. Its word names its settings (`sets`); its law is that both ways of a link are equal. A line of the
-//! input is a call (`calls`), and what it answers is printed; or `state`, and what the servo then holds is printed
-//! (`lines`).
+//! input is a call (`calls`), whose answer is printed; or `state`, and what the servo then holds is printed (`lines`).
 ghost use Rattle.std.specs.Prelude.{◌≡◌, ◌≤◌, ◌+◌, ◌^◌, unsigned_abs};
 ghost use Rattle.wrp_law.specs.Law.{KeepsFact};
 

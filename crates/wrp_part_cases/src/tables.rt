@@ -1,5 +1,4 @@
-//! `table`: the input is the points `X Y` of a table, a line `---`, and places x; the value of the table at each is
-//! expected.
+//! `table`: the input is the points `X Y` of a table, a line `---`, and places x; the value at each place is expected.
 ghost use Rattle.std.specs.Prelude.{◌≤ℤ◌, IsTrue};
 ghost use Rattle.std.specs.List.{AllByRecursion};
 ghost use Rattle.wrp_law.specs.Table.{FitsPoint, Rises, last_x};

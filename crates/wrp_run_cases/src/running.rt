@@ -62,7 +62,8 @@ pub fn borrowed<'a>(alloc: Global, words: &'a [String]) -> Result<Vec<&'a str>, 
     Ok(texts)
 }
 
-// What a run answers. It stands alone, since the contract of `run` is long: what calls it is proved beside all of it.
+// What a run answers. It is a function of its own, since the contract of `run` is long: its caller is proved beside all
+// of it.
 fn status_of<N: Link>(
     alloc: Global,
     words: &[&str],

@@ -1,4 +1,4 @@
--- What a servo holds after a list of calls, found by looking back over it, and the causes judged there (this project's
+-- What a servo holds after a list of calls, by looking back over it, and the causes judged there (this project's
 -- profile).
 use Rattle.std.specs.Prelude.{ℕ, ℤ, pos, ◌-◌, max, Bool, cond, not, ◌&&◌, ◌||◌, is_some, Option, None, Some, List, [], ◌∷◌}
 use Rattle.wrp_phase.specs.Unwrapping.{last_tag, unwrapped}
@@ -33,8 +33,7 @@ last_told x (_ ∷ calls) = last_told x calls
 
 -- what a servo holds after a list of calls: carrier, link and lease as last given, the ticks and the ticks since the
 -- last good sample as they are counted, the greatest number of a sample, and the phase as a sum of tags. The state, the
--- chain, the four, the calm count, the setpoint, its goal, the controller and the detector are the ones that the rows
--- give.
+-- chain, the four, the calm count, the setpoint, its goal, the controller and the detector are as the rows have them.
 abbrev pub seen : ServoSetting → List Call → Core
 seen x calls = record (run x calls) {
   signals = record { carrier = carrier_told calls; link = link_told calls; lease = lease_told calls };

@@ -1,5 +1,4 @@
--- Looking back over a list of calls, the newest at its head: something holds if a call starts it and no later call ends
--- it.
+-- Looking back over a list of calls, newest first: something holds if a call starts it and no later call ends it.
 use Rattle.std.specs.Prelude.{◌≡◌, Bool, true, false, List, [], ◌∷◌, ◌++◌}
 use Rattle.wrp_servo.specs.Call.{Call}
 

@@ -62,7 +62,7 @@ fn odd_end_has_its_other_end(rt: HostRuntime) -> Result<(), Fail> {
     Ok(())
 }
 
-// Whether a start over a system without sockets is a fault, and not want of memory.
+// Whether a start over a system without sockets is a fault, and not a lack of memory.
 fn is_start_fault(alloc: Global, cause: io::ErrorKind) -> Option<bool> {
     match UdpLink::new(&NoNet(cause), alloc).start(2) {
         Err(StartFault::Failed) => Some(true),

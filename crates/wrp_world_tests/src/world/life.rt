@@ -1,4 +1,4 @@
-//! The life of one frame: what a world tells of it after each event of a run of gm and sw1 alone.
+//! The life of one frame: what a world reports of it after each event of a run of gm and sw1 alone.
 ghost use Rattle.std.specs.Prelude.{◌≤◌, ◌^◌, unsigned_abs};
 ghost use Rattle.wrp_world.specs.StandsFor.{IsValid};
 
@@ -78,7 +78,7 @@ fn due(number: u32) -> Told {
     }
 }
 
-// The frame is told of from its departure on, and no more once it is older than its life.
+// The frame is reported from its departure on, and no more once it is older than its life.
 fn lives<F: Fn(i64) -> i64>(rt: &impl Abort, trial: &mut Trial<F>)
     requires valid { IsValid F.pre F.post trial.old.world }
     requires came { trial.old.world.plant.events ≤ trial.old.came }

@@ -152,7 +152,7 @@ fn receiver(sender: End) -> u8 {
     }
 }
 
-// The wrMessageID of a frame: in a Signaling it stands behind the header, the target, and the head of the first TLV.
+// The wrMessageID of a frame: in a Signaling it follows the header, the target, and the head of the first TLV.
 fn message_of(frame: &[u8]) -> Option<u16> {
     let (Some(0x0c), Some(high), Some(low)) = (frame.first(), frame.get(54), frame.get(55)) else {
         return None;
