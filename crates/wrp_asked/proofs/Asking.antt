@@ -234,7 +234,7 @@ refused_past asked task status network given text r divided asks at empty =
           absurd (none_refused (meaning_at task) status at.front (first_of_none at.front at.past nothing) at.refused)
     ]
 
--- where a record is refused
+-- if a record is refused
 past_told : (run : Run) (middle : Option (List ℕ)) (text given : List ℕ) (r : ReaderAt) (task : Task) (status : Status)
     → TookNetwork run.asked run.source.before middle text r task → Consumes middle run.source.now given
     → StopsNear (of_lines (meaning_at task)) status (r.rest ++ given) → IfSome run.source.before (TakesPiece run status)
@@ -387,12 +387,12 @@ pub told_no_usage : (asked : CommandLine) (first : Option (List ℕ)) → IfSome
 told_no_usage asked None none = tt
 told_no_usage asked (Some input) none = (inr none, refl, refl)
 
--- where the words are no command
+-- if the words are no command
 pub told_usage : (asked : CommandLine) (first : Option (List ℕ)) → (IsCommand asked → ⊥) → IfSome first (λ input. Answer asked input [] Usage asked.usage)
 told_usage asked None none = tt
 told_usage asked (Some input) none = (inl none, refl, refl)
 
--- where nothing was written
+-- if nothing was written
 pub nothing_first : (asked : CommandLine) (first : Option (List ℕ)) → IfSome first (λ input. FirstAnswer asked input [] [])
 nothing_first asked None = tt
 nothing_first asked (Some input) = inl (refl, refl)

@@ -51,7 +51,7 @@ usage_due : (asked : CommandLine) (input : List ℕ) (Due : DueFor) → IsDueSo 
 usage_due asked input Due so (inl none) = absurd (none (networked_command asked (so.command, so.on)))
 usage_due asked input Due so (inr none) = so.no_node input none
 
--- where no link was called
+-- if no link was called
 uncalled : (Due : DueFor) (input : List ℕ) (calls : List LinkCall) (status : Status) (octets : List ℕ) → calls ≡ [] → Due input [] status octets
     → Due input calls status octets
 uncalled Due input calls status octets none due = subst (λ (c : List LinkCall). Due input c status octets) (sym none) due

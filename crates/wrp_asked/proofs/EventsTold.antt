@@ -169,7 +169,7 @@ records_due input TooLarge octets s M w means (inr off) = absurd (means.never _ 
 records_due input BadCalib octets s M w means h = absurd (means.never _ _ _ h.broken)
 records_due input _ octets s M w means h = absurd h
 
--- Where the source failed
+-- If the source failed
 
 -- the network text of the whole input is the one that came, and the whole records among what was taken are reported
 pub cut_due : (input taken left octets : List ℕ) (s : Setting) (M : LineMeaning) (w : Writes) (front back text : List ℕ) → MeansEvents s M w

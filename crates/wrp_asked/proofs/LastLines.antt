@@ -221,7 +221,7 @@ sums_told P all s net events (n ∷ nodes) =
 
 -- What is expected after events, or alone
 
--- where no record was reached
+-- if no record was reached
 pub none_tells : (P : List ℕ → Type 0) → HasLastLines P → (input : List ℕ) (status : Status) (octets : List ℕ) → ReachesNone input status octets
     → AllByRecursion P (lines_of octets)
 none_tells P all input BadNetwork octets none = refused P all (network_text input) octets none.1

@@ -1,4 +1,4 @@
--- The lines of an event: where one says that a link is on, so does its output.
+-- The lines of an event: if one says that a link is on, so does its output.
 use Rattle.std.proofs.Common.{◌≡◌, ◌∙◌, refl, ap, sym, subst, ℕ, ℤ, pos, List, [], ◌∷◌, ◌++◌, flat_map, Option, Some, Bool, arith, codes}
 use Rattle.std.specs.List.{AllByRecursion}
 use Rattle.std.specs.Fmt.{decimal}

@@ -81,7 +81,7 @@ refused_unlinked fault given before now link how sound =
 
 -- What is said of all records
 
--- what holds of all record lines, where the input ended, in the whole input
+-- what holds of all record lines, if the input ended, in the whole input
 both_told : (P : List (List ℕ) → Type 0) (Q : List ℕ → Type 0) (asked : CommandLine) (first : Option (List ℕ)) (source : Passage (List ℕ)) (text given : List ℕ)
     (r : ReaderAt) (ended : Bool) (task : Task)
     → TookNetwork asked first source.before text r task → Consumes source.before source.now given → (ended ≡ true → IsAtEnd source.now) → ended ≡ true

@@ -38,7 +38,7 @@ use Rattle.wrp_asked.proofs.ToldApart.{all_text, came_text, count_lines, counts_
 use Rattle.wrp_asked.proofs.ToldWhole.{all_whole, audit_whole, counts_whole}
 use Rattle.wrp_asked.proofs.WordLemmas.{lacks_none, one_command}
 
--- where a loop is asked for, what holds of every task holds if it does of a loop
+-- if a loop is asked for, what holds of every task holds if it does of a loop
 only_loop : (asked : CommandLine) (text : List ℕ) (seed : ℕ) (P : Task → Type 0) (Q : Type 0) → IsLooping asked seed
     → ((s : Setting) (own : ℕ) → AsksFor asked text (Loop s own) → P (Loop s own) → Q) → (task : Task) →
     AsksFor asked text task → P task → Q
@@ -260,7 +260,7 @@ first_due asked seed input octets task looping asks first =
     (IsLoopDue asked input [] OutOfMemory octets) looping
     (λ s own a first. scene_first asked input octets s first) task asks first
 
--- where the source failed, nothing was written
+-- if the source failed, nothing was written
 cut_due : (asked : CommandLine) (seed : ℕ) (input taken octets : List ℕ) → IsLooping asked seed → CutTask asked taken octets
     → IsLoopDue asked input [] ReadFault octets
 cut_due asked seed input taken octets looping cut =

@@ -226,7 +226,7 @@ too_long_cut line r left rest waiting number so_far cut never some long more goe
     ∙ ap (λ n. length so_far.text + n) (length-append (line ++ on.0) _ ∙ ap (λ n. n + length (before_separator on.1)) (length-append line on.0)) in
     omega arith
 
--- where the source failed
+-- if the source failed
 pub undivided : (line : List ℕ) (r : ReaderAt) (left rest : Option (List ℕ)) (waiting : List ℕ) (number : ℕ)
     → (so_far : Coming NetworkLines Anything [] line r left rest None None waiting number)
     → IsCut line r → r.ended ≡ false → length so_far.text ≤ network_limit → (length so_far.text + length line ≤ network_limit) ⊎ StartsWith (codes "---\r") line

@@ -164,7 +164,7 @@ all_itself octets told = all_weaker BeginsWithin IsWithinItsBound itself (lines_
 pub untold_within : (octets : List ℕ) → AllByRecursion TellsNoTrack (lines_of octets) → TracksAreWithinBounds octets
 untold_within octets told = all_itself octets (untold octets told)
 
--- also where the sink failed
+-- also if the sink failed
 prints_within : (IsDue : Status → List ℕ → Type 0) → ((status : Status) (due : List ℕ) → IsDue status due → AllByRecursion BeginsWithin (lines_of due))
     → (status : Status) (octets : List ℕ) → Prints IsDue status octets → TracksAreWithinBounds octets
 prints_within IsDue f WriteFault octets (status, due, count, is, so) =

@@ -1,4 +1,4 @@
--- What holds of each line of a text holds of each line of its first octets, where it holds of what a line begins with.
+-- What holds of each line of a text holds of each line of its first octets, if it holds of what a line begins with.
 use Rattle.std.proofs.Common.{ℕ, zero, suc, ◌==◌, Bool, true, false, if◌then◌else◌, List, [], ◌∷◌, ◌++◌, take}
 use Rattle.std.specs.List.{AllByRecursion}
 use Rattle.wrp_records.specs.Lines.{lines_of, onto}

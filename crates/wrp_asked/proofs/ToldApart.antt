@@ -62,7 +62,7 @@ audit_text s (h ∷ before) =
 
 -- Counters
 
--- a line for a counter, where it is not 0
+-- a line for a counter, if it is not 0
 abbrev pub count_if : List ℕ → ℕ → Reason → Bool → ℕ → List (List ℕ)
 count_if name port reason none value = if none then [] else count_line_of name port (number_of reason) value ∷ []
 

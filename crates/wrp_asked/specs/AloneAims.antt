@@ -35,10 +35,10 @@ MigratesSo input status octets = Unit {0}
 abbrev pub CalibratesSo : List ℕ → Status → List ℕ → Type 0
 CalibratesSo input status octets = (true : Delays) → SayTruly input true → TellsSo status octets true
 
--- after each record each printed state is the one that looking back finds; an end whose last printed state is up was handed a
--- message since it was enabled, which its peer sent at most the timeout's ticks and a life ago; it requires the same, and each
--- required bit holds at the end and in the message; and both ends require the same now where the peer's own message was not
--- set since
+-- after each record each printed state is the one that looking back finds; an end whose last printed state is up was
+-- handed a message since it was enabled, which its peer sent at most the timeout's ticks and a life ago; it requires
+-- the same, and each required bit holds at the end and in the message; and both ends require the same now if the peer's
+-- own message was not set since
 abbrev pub SynchronisesSo : List ℕ → Status → List ℕ → Type 0
 SynchronisesSo input Done octets = ShowsBy Done input octets
 SynchronisesSo input BadTrace octets = ShowsBy BadTrace input octets

@@ -95,7 +95,7 @@ Answer asked input calls TooLarge octets =
     ⊎ RecordsDue asked input calls TooLarge octets
 Answer asked input calls status octets = RecordsDue asked input calls status octets
 
--- the lines of the first records of an input, or of the first events of a simulation or of a loop; none, where
+-- the lines of the first records of an input, or of the first events of a simulation or of a loop; none, if
 -- the records were not reached
 abbrev pub FirstAnswer : CommandLine → List ℕ → List LinkCall → List ℕ → Type 0
 FirstAnswer asked input calls octets =

@@ -49,7 +49,7 @@ abbrev pub TellsNoTrack : List ℕ → Type 0
 TellsNoTrack line =
     (node tick rest : List ℕ) → IsWord node → IsWord tick → line ≡ node ++ 32 ∷ (tick ++ 32 ∷ (codes "track" ++ rest)) → ⊥
 
--- no line that is written where a command line is refused begins so
+-- no line that is written when a command line is refused begins so
 abbrev pub HasPlainUsage : CommandLine → Type 0
 HasPlainUsage asked = AllByRecursion TellsNoTrack (lines_of asked.usage)
 

@@ -140,7 +140,7 @@ Ends run LinkFault =
 -- the network or a size is refused, and its line is written after the lines of the records before it
 Ends run status = Answered run status
 
--- so it ends, over this source and this sink, where it calls no link
+-- so it ends, over this source and this sink, if it calls no link
 abbrev pub EndsUnlinked : CommandLine → Passage (List ℕ) → Passage (List ℕ) → Status → Type 0
 EndsUnlinked asked source sink status =
     (link : Passage (List LinkCall)) → link.now ≡ link.before

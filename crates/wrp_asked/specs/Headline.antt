@@ -1,8 +1,8 @@
--- The aim of the project, part by part, of what an audit wrote, for each status: it printed exactly the nodes' steps
+-- The aim of the project, part by part, for what an audit wrote, for each status: it printed exactly the nodes' steps
 -- (`PrintsTheSteps`); no port was in WR_LINK_ON unless its peer had passed the required steps of that same handshake
--- (`LinkOnIsEarned`); every track line's true offset is at most its printed bound (`TracksAreWithin`, in TrackLines.antt);
--- a malformed or foreign frame changed only a counter (`DropsOnlyCount`); and each node in TRACK was within its hop of its parent, with
--- what follows of that (`HopByHop`, in HopByHop.antt). This project's profile.
+-- (`LinkOnIsEarned`); every track line's true offset is at most its printed bound (`TracksAreWithin`, in
+-- TrackLines.antt); a malformed or foreign frame changed only a counter (`DropsOnlyCount`); and each node in TRACK was
+-- within its hop of its parent, with what follows from that (`HopByHop`, in HopByHop.antt). This project's profile.
 use Rattle.std.specs.Prelude.{◌≡◌, ◌⊎◌, ℕ, ◌+◌, ◌<◌, ◌≤◌, Some, List, [], ◌∷◌, ◌++◌, length, map, take, codes}
 use Rattle.std.specs.Fmt.{decimal}
 use Rattle.std.specs.List.{AllByRecursion}
@@ -104,21 +104,21 @@ PrintsTheSteps asked input status octets =
 
 -- The second part
 
--- a line that is written of an event which left this world: where it says NODE TICK link PORT link-on, a node of that name has a
--- port of that number, which is in WR_LINK_ON and has earned it
+-- a line that is written of an event which led to this world: if it says NODE TICK link PORT link-on, a node of that
+-- name has a port of that number, which is in WR_LINK_ON and has earned it
 abbrev pub IsEarnedLine : Setting → WorldAt → List ℕ → Type 0
 IsEarnedLine s w line =
     (node tick port : List ℕ) → IsWord node → IsWord tick → IsWord port →
     line ≡ line_of (node ∷ tick ∷ codes "link" ∷ port ∷ codes "link-on" ∷ []) →
     (n : ℕ) × (p : ℕ) × (name_at s.cfg n ≡ node) × (decimal p ≡ port) × IsOn s w n p
 
--- after an event each port in WR_LINK_ON has earned it, and so has each of which a line that is written of the event says
--- link-on, and it is there
+-- after an event each port in WR_LINK_ON has earned it; and each port of which a line that is written of the event says
+-- link-on has earned it and is there
 pub record IsEarnedAt (write : Writing) (s : Setting) (before : List Happened) (h : Happened) : Type 0 where
   pub ports : AllHaveEarned s (world_after s (h ∷ before))
   pub lines : AllByRecursion (IsEarnedLine s (world_after s (h ∷ before))) (lines_of (write s before h))
 
--- after each event, each port in WR_LINK_ON has earned it, and so has each of which the event's lines say link-on
+-- after each event, each port in WR_LINK_ON has earned it, and so has each port of which the event's lines say link-on
 abbrev pub LinkOnIsEarned : Writing → Setting → List Happened → Type 0
 LinkOnIsEarned write s events = AtEachEvent (IsEarnedAt write s) events
 

@@ -14,8 +14,8 @@ ReportsOffsets (Some (requests.OnNetwork (requests.Replay name))) = ⊥
 ReportsOffsets (Some (requests.StandAlone alone)) = ⊥
 ReportsOffsets _ = Unit {0}
 
--- where the line is NODE TICK track EST BOUND true OFF, with its LF, BOUND and OFF are numbers in tau, and the size of OFF is at
--- most BOUND
+-- if the line is NODE TICK track EST BOUND true OFF, with its LF, BOUND and OFF are numbers in tau, and the size of OFF
+-- is at most BOUND
 abbrev pub IsWithinItsBound : List ℕ → Type 0
 IsWithinItsBound line =
     (node tick est bound off : List ℕ) → IsWord node → IsWord tick → IsWord est → IsWord bound → IsWord off →

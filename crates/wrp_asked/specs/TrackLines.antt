@@ -30,7 +30,7 @@ pub record TellsTruth (s : Setting) (w : WorldAt) (node est bound off : List ℕ
   pub own : offset ≡ (w.clock number).off
   pub report : IsTrueReport s w number estimate
 
--- a line that is written of an event which left this world: where it says NODE TICK track EST BOUND true OFF, that is so
+-- a line that is written of an event which led to this world: if it says NODE TICK track EST BOUND true OFF, that is so
 abbrev pub IsTrueLine : Setting → WorldAt → List ℕ → Type 0
 IsTrueLine s w line =
     (node tick est bound off : List ℕ) → IsWord node → IsWord tick → IsWord est → IsWord bound → IsWord off →

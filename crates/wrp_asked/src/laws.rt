@@ -94,15 +94,16 @@ pub fn runs_print_within_bounds()
     loop_is_audited();
 }
 
-/// Each report of TRACK in an event has its line among those that an audit and a run over a link write of the event,
-/// and among those of a simulation: the name and the tick count of the node, the estimate, the node's path, and its
-/// offset from true time. So the law above speaks of some line wherever a node reports TRACK.
+/// Each report of TRACK in an event has its line among the lines that an audit and a run over a link write of the
+/// event, and among the lines of a simulation: the name and the tick count of the node, the estimate, the node's
+/// path, and its offset from true time. So the law above speaks of some line wherever a node reports TRACK.
 pub fn track_reports_have_lines()
     ensures { TrackReportsHaveLines }
 {}
 
-/// So it is with each report that a link is on: among these lines is the one with the name and the tick count of the
-/// node and the port. So what the aim says of such lines speaks of some line wherever a node reports that a link is on.
+/// The same holds of each report that a link is on: among these lines is the one with the name and the tick count of
+/// the node and the port. So what the aim says of such lines speaks of some line wherever a node reports that a link is
+/// on.
 pub fn link_on_reports_have_lines()
     ensures { LinkOnReportsHaveLines }
 {}

@@ -50,7 +50,7 @@ rooms_kept net from (node ∷ nodes) none (suc n) room within is =
     rooms_kept net (from + 1) nodes (some_passed is_broken (phase_room_of net from) (phase_rooms_from net (from + 1) nodes) none).1 n room (omega arith)
     (let place : from + 1 + n ≡ from + suc n = omega arith in ap (phase_room_of net) place ∙ is)
 
--- and a search finds nothing where it is kept at each
+-- and a search finds nothing if it is kept at each
 rooms_keep : (net : NetCfg) (from : ℕ) (nodes : List NodeCfg) →
     ((n : ℕ) (room : Inequality) → n < length nodes → phase_room_of net (from + n) ≡ Some room → is_broken room ≡ false) →
     find is_broken (phase_rooms_from net from nodes) ≡ None
@@ -101,7 +101,7 @@ room_keeps net n room keeps within is =
     let at : (k : HopNumbers) × (numbers_of net n ≡ Some k) × (phase_room net k ≡ room) = room_of net (numbers_of net n) room (ap (phase_room_of net) place ∙ is) in
     ap is_broken (sym at.2) ∙ less_keeps (2 * gap_motion at.0 + 4 * detector_error at.0) (period_of net.clock) (keeps.phase_room n at.0 within at.1)
 
--- where no inequality is broken, each is kept
+-- if no inequality is broken, each is kept
 pub kept_of_none : (net : NetCfg) → find is_broken (inequalities net) ≡ None → KeepsInequalities net
 unfolding quiet_time holdover_time tick_times holdoff_time flight_time lock_counts id_reuse port_delays
 kept_of_none net none =
@@ -121,7 +121,7 @@ kept_of_none net none =
       port_delays = at_most_kept _ _ behind.1.1.1.1.1.0;
     }
 
--- where each is kept, none is broken
+-- if each is kept, none is broken
 pub none_of_kept : (net : NetCfg) → KeepsInequalities net → find is_broken (inequalities net) ≡ None
 unfolding quiet_time holdover_time tick_times holdoff_time flight_time lock_counts id_reuse port_delays
 none_of_kept net keeps =

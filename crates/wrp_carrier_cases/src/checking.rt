@@ -101,7 +101,7 @@ pub fn judge_all<F: Fn(i64) -> i64>(world: &World<F>, counts: &mut Counts) -> Re
     Ok(())
 }
 
-// Compares a node's true offset with its bound, where it is up and in TRACK or HOLDOVER.
+// Compares a node's true offset with its bound, if it is up and in TRACK or HOLDOVER.
 fn compare<F: Fn(i64) -> i64>(
     world: &World<F>,
     node: u8,

@@ -19,6 +19,6 @@ abbrev pub TicksRise : List Call → Type 0
 TicksRise [] = Unit {0}
 TicksRise (call ∷ calls) = IfSome (tick_of call) (λ t. NoneAfter t calls) × TicksRise calls
 
--- where both are there, the later four's tick is not before the earlier one's
+-- if both are there, the later four's tick is not before the earlier one's
 abbrev pub NotOlder : Option Four → Option Four → Type 0
 NotOlder earlier later = IfSome earlier (λ f. IfSome later (λ g. f.tick ≤ g.tick))

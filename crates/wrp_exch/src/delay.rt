@@ -68,8 +68,7 @@ impl DelayHalf {
         self.request = seq.map(|seq| Request { seq, sent: None });
     }
 
-    /// Keeps the sending of the request where it is of this id and waits for one. Answers whether it
-    /// was kept.
+    /// Keeps the sending of the request if it is of this id and waits for one. Returns whether it was kept.
     pub fn tell(&mut self, seq: u16, sent: Option<Sent>) -> bool
         requires old { HasDelayTimes self.old }
         requires t3 { IfSome sent (λ s. unsigned_abs s.t3 < 2 ^ 104) }

@@ -43,7 +43,7 @@ impl Exchange {
     ghost use Rattle.wrp_exch.specs.Ticks.{NoneAfter, TicksRise, NotOlder};
 
     /// An exchange with no chain, which knows the last `ring` good samples: 1 to 4096. It takes all
-    /// the memory that it will need. `AllocError` where there is not that much: no exchange is made.
+    /// the memory that it will need. `AllocError` if there is not that much: no exchange is made.
     pub fn new(alloc: Global, ring: usize) -> Result<Exchange, AllocError>
         requires least { 1 ≤ ring }
         requires greatest { ring ≤ 4096 }
@@ -83,7 +83,7 @@ impl Exchange {
     }
 
     /// Takes a good sample: its number and the unwrapped phase at it, in tau. A node numbers its
-    /// samples upwards; where a number comes again, the newest sample of it counts.
+    /// samples upwards; if a number comes again, the newest sample of it counts.
     pub fn sample(&mut self, n: u32, u: i64)
         ensures { (ring : ℕ) → Adds (StandsFor ring) self.old self.new (CallSample n u) }
     {
@@ -121,8 +121,8 @@ impl Exchange {
         }
     }
 
-    /// Takes a Follow_Up: `precise` is its preciseOriginTimestamp with its own correctionField, in
-    /// tau. Answers whether it made the Sync pair: where the last kept Sync has its sequenceId, no
+    /// Takes a Follow_Up: `precise` is its preciseOriginTimestamp with its own correctionField, in tau.
+    /// Returns whether it made the Sync pair: it did if the last kept Sync has its sequenceId, no
     /// Follow_Up of that sequenceId came in between, and the Sync's sample is still known.
     pub fn follow_up(&mut self, seq: u16, precise: Tau) -> bool
         requires { unsigned_abs precise < 2 ^ 104 }
@@ -166,9 +166,9 @@ impl Exchange {
         self.delay.tell(seq, sent)
     }
 
-    /// Takes a Delay_Resp: `t4` is its receiveTimestamp less its correctionField, in tau. Answers
-    /// whether it made the delay pair: where it is of the last request, whose sending was kept, and
-    /// no Delay_Resp of that sequenceId came since that sending.
+    /// Takes a Delay_Resp: `t4` is its receiveTimestamp less its correctionField, in tau. Returns
+    /// whether it made the delay pair: it did if it belongs to the last request, whose sending was kept,
+    /// and no Delay_Resp of that sequenceId came since that sending.
     pub fn resp(&mut self, seq: u16, t4: Tau) -> bool
         requires { unsigned_abs t4 < 2 ^ 104 }
         ensures made { (ring : ℕ) (calls : List Call) → StandsFor ring self.old calls →

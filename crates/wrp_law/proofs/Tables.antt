@@ -69,7 +69,7 @@ table_value-never_falls (start ∷ points) x z rises first later last = never_fa
 pub wider : (m err a : ℕ) → a ≤ m * err → a ≤ m * (err + 1)
 wider m err a h = omega arith
 
--- where each point is within an error of the exact fraction, the value is within that and one more
+-- if each point is within an error of the exact fraction, the value is within that and one more
 pub at_last : (kappa : ℤ) (err : ℕ) (start : ℤ × ℤ) (x : ℤ) → start.0 ≤ℤ x → x ≤ℤ start.0 → IsNear (Linear kappa) err start.0 start.1 → IsNear (Linear kappa) (err + 1) x start.1
 at_last kappa err start x after before near =
     let same : start.0 ≡ x = omega (arith, ints) in

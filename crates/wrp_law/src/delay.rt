@@ -9,7 +9,7 @@ use std::marker::Model;
 pub enum LawKind {
     /// The way down takes `(2^39 + kappa) / 2^40` of both ways.
     Linear {
-        /// The asymmetry: 0 where both ways are equal.
+        /// The asymmetry: 0 if both ways are equal.
         kappa: i64,
     },
 }

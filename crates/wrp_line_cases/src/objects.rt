@@ -16,7 +16,7 @@ use wrp_suite::{Answer, Case, Fault};
 // The most octets of a read.
 const MOST: usize = 16;
 
-// Appends a word, a number, and octets where there are some.
+// Appends a word, a number, and octets if there are some.
 fn push_octets(
     alloc: Global,
     out: &mut Vec<u8>,

@@ -52,7 +52,7 @@ done_there R p (suc i) (x ∷ xs) d y s h n a r =
     let other : p ≢ x.number = subst (λ (k : ℕ). k ≢ x.number) n (number_at (λ q. q ≢ x.number) xs i d (omega arith) a.0) in
     (s x (eq_not x.number p (λ e. other (sym e))), done_there R p i xs d y s (omega arith) n a.1 r)
 
--- where no port has the number, all stay
+-- if no port has the number, all stay
 pub done_nowhere : (R : PortPlace → PortPlace → Type 0) (p : ℕ) (xs : List PortPlace) → ((x : PortPlace) → (x.number == p) ≡ false → R x x) → list_any (λ q. q == p) (numbers_in xs) ≡ false → AllZip R xs xs
 done_nowhere R p [] s e = tt
 done_nowhere R p (x ∷ xs) s e =

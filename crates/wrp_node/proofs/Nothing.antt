@@ -33,7 +33,7 @@ same_link {F} {post} told control on is same fixed calls h =
     subst (λ (o : Option (ToldServo F)). ServoIs post fixed calls o) is h.servo in
     none_where fixed (is_some (link_told calls)) (is_some on) (CallLink on) (sym stands.1.link ∙ same)
 
--- where there is none
+-- if there is none
 pub no_servo : {F : Type 0} {post : F → ℤ → ℤ → Type 0} (control : ControlOf F) (call : List Call → Option Call) → control.told ≡ None → HasNothing post control call
 no_servo {F} {post} control call is fixed calls h =
     let none : is_some (slave_of fixed.set) ≡ false = subst (λ (o : Option (ToldServo F)). ServoIs post fixed calls o) is h.servo in

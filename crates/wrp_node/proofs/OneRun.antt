@@ -68,7 +68,7 @@ one_call fixed calls others (Some c) h = record {
   servo = ap (λ (v : Core). after (servo_setting_of fixed) v c) h;
 }
 
--- a measurement: where the law is not asked, its answer is of no account
+-- a measurement: if the law is not asked, its answer is of no account
 cond_same : {A : Type 0} (b : Bool) (g : ℤ → A) (z : A) (y w : ℤ) → (IsTrue b → y ≡ w) → cond b (g y) z ≡ cond b (g w) z
 cond_same true g z y w h = ap g (h (grind arith))
 cond_same false g z y w h = refl

@@ -134,7 +134,7 @@ pub no_start : (b : Bool) → (not b && false) ≡ true → ⊥
 no_start true e = cc
 no_start false e = cc
 
--- where the call is no good sample, and the tags since the last restart stay
+-- if the call is no good sample, and the tags since the last restart stay
 kept_live : (laws : ServoLaws) (x : ServoSetting) (calls : List Call) (c : Call) → (chain_starts x calls c ≡ true → ⊥) → (is_some (run x calls).first ≡ true → tags x (c ∷ calls) ≡ tags x calls) →
     IsLive (run x calls) → IsLive (run x (c ∷ calls))
 kept_live laws x calls c never same h e = elim (stands_at laws x calls c e) [

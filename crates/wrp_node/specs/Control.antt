@@ -73,7 +73,7 @@ HasNothing post c call = (fixed : NodeSetting) (calls : List Call) → ControlSt
 abbrev pub carrier_call : Bool → Bool → Option Call
 carrier_call slave up = if slave then Some (CallCarrier up) else None
 
--- the law that the servo asks, where there is a servo
+-- the law that the servo asks, if there is a servo
 abbrev pub law_in : {F : Type 0} → ControlOf F → Option (LawOf F)
 law_in c = option_map (λ t. t.servo.law) c.told
 
@@ -87,12 +87,12 @@ HasTick c = IfSome c.told (λ t. t.servo.core.ticks + 1 < 2 ^ 32)
 
 -- ---- what a servo's part reports of itself
 
--- the state of the servo; UNINIT where the node has none
+-- the state of the servo; UNINIT if the node has none
 abbrev pub state_in : {F : Type 0} → Option (ToldServo F) → ServoState
 state_in None = Uninit
 state_in (Some t) = t.servo.core.state
 
--- whether the lock detector of the servo is locked; false where the node has no servo
+-- whether the lock detector of the servo is locked; false if the node has no servo
 abbrev pub locked_in : {F : Type 0} → Option (ToldServo F) → Bool
 locked_in None = false
 locked_in (Some t) = t.servo.core.phase.lock.locked
@@ -102,7 +102,7 @@ abbrev pub certain_in : {F : Type 0} → Option (ToldServo F) → Bool
 certain_in None = true
 certain_in (Some t) = is_track t.servo.core.state
 
--- the DAC value that the loop of the servo holds; the bias where the node has no servo
+-- the DAC value that the loop of the servo holds; the bias if the node has no servo
 abbrev pub dac_in : {F : Type 0} → ℕ → Option (ToldServo F) → ℕ
 dac_in bias None = bias
 dac_in bias (Some t) = t.servo.core.phase.dac

@@ -74,7 +74,7 @@ servo_has_sample number base bits fixed n = tell fixed (for_slave fixed (Some (C
 abbrev pub ticked : NodeSetting → NodeAt → Step
 ticked fixed n = ports_ticked fixed (servo_ticked fixed n)
 
--- the ports have their tick, where none has sent yet
+-- the ports have their tick, if none has sent yet
 abbrev pub PortsTick : {F : Type 0} → (F → ℤ → ℤ → Type 0) → NodeOf F → NodeOf F → Type 0
 PortsTick post old new =
     (fixed : NodeSetting) (before : NodeAt) (s : Step) → ((p : ℕ) → s.sends p ≡ []) → IsIn post fixed before s old →
@@ -102,7 +102,7 @@ TakesMessage post p message raw sample old new = (answer : ℤ) × NodeTakes pos
 abbrev pub sent_at : ℕ → ℕ → Bool → Stamp → NodeSetting → NodeAt → Step
 sent_at p seq delay stamp fixed n = handed fixed p (PortSent delay seq stamp n.ticks) n
 
--- the carrier of a port comes or goes; the port's module is there where the calibration database lists it
+-- the carrier of a port comes or goes; the port's module is there if the calibration database lists it
 abbrev pub carried_at : ℕ → Bool → Option Module → NodeSetting → NodeAt → Step
 carried_at p up own_module fixed n = carried fixed p up own_module n
 

@@ -85,7 +85,7 @@ slave_of set = slave_in set.ports.items
 abbrev pub no_port : PortDs
 no_port = record { own = record { clock = 0; port = 0 }; peer = record { clock = 0; port = 0 }; role = Master; wr = false }
 
--- a port that was looked for, or the one in its place where none was found
+-- a port that was looked for, or the one in its place if none was found
 abbrev pub port_or_none : Option PortDs → PortDs
 port_or_none None = no_port
 port_or_none (Some ds) = ds
@@ -150,11 +150,11 @@ abbrev pub is_fresh_at : NodeSet → NodeAt → Option ℕ → Bool
 is_fresh_at set n None = false
 is_fresh_at set n (Some p) = is_fresh (setting_of set p) (n.told p)
 
--- whether the lease of the node's slave port is fresh; false where it has none
+-- whether the lease of the node's slave port is fresh; false if it has none
 abbrev pub is_fresh_in : NodeSet → NodeAt → Bool
 is_fresh_in set n = is_fresh_at set n (slave_of set)
 
--- the four delays of the slave port's link, where it is in WR_LINK_ON
+-- the four delays of the slave port's link, if it is in WR_LINK_ON
 abbrev pub deltas_at : NodeSet → NodeAt → Option ℕ → Option Deltas
 deltas_at set n None = None
 deltas_at set n (Some p) = port_deltas_of (port_of set p).role (link_at set n p)

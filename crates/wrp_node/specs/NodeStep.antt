@@ -60,7 +60,7 @@ ports_ticked fixed s = record s {
 
 -- ---- a frame
 
--- the stamp of its reception, merged with the transition of the port's module, which is 0 where the module is not listed
+-- the stamp of its reception, merged with the transition of the port's module, which is 0 if the module is not listed
 abbrev pub stamp_of : NodeSetting → NodeAt → ℕ → Raw → ℕ → Stamp
 stamp_of fixed n p raw sample =
     record {
@@ -105,7 +105,7 @@ abbrev pub measured : NodeSetting → ℕ → PortIn → ℤ → NodeAt → Step
 measured fixed p input answer n =
     tell fixed (for_slave fixed (measurement_by (measured_at fixed n p input) answer)) (used fixed p input n)
 
--- a message is dropped for the reason given, or taken where there is none
+-- a message is dropped for the reason given, or taken if there is none
 abbrev pub heard_unless : Option Reason → NodeSetting → ℕ → PortIn → ℤ → NodeAt → Step
 heard_unless None fixed p input answer n = measured fixed p input answer n
 heard_unless (Some reason) fixed p input answer n = dropped p (reason_number reason) n

@@ -92,7 +92,7 @@ told_only p more fixed s = record s { node = record s.node { told = λ q. if q =
 abbrev pub reason_counted : ℕ → Option ℕ → NodeSetting → Step → Step
 reason_counted p reason fixed s = record s { node = record s.node { counters = counted_at s.node.counters p reason } }
 
--- an answer of the servo was taken over: its step of the clock, in periods, where it is not 0, and its DAC value, if it
+-- an answer of the servo was taken over: its step of the clock, in periods, if it is not 0, and its DAC value, if it
 -- has one
 abbrev pub commanded : ServoOut → NodeSetting → Step → Step
 commanded out fixed s = record s { cycles = newest_step out.cycles s.cycles; dac = option_or out.dac s.dac }

@@ -40,7 +40,7 @@ abbrev pub signals_at : NodeSetting → NodeAt → ℕ → LinkNews → List Ptp
 signals_at fixed n p news =
     signals_of (setting_of fixed.set p) (line_at fixed.set n p).ids.signal (link_sends (link_at fixed.set n p) news)
 
--- the Signaling messages that a port sends at a step are the ones that its link sends, in the same order
+-- the Signaling messages that a port sends at a step are the ones that its link sends, in their order, and no others
 abbrev pub SignalsAreOfLink : Type 0
 SignalsAreOfLink =
     (fixed : NodeSetting) (t : Taken) (n : NodeAt) (p : ℕ) →

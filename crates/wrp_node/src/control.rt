@@ -45,7 +45,7 @@ fn no_answer() -> ServoOut
 }
 
 impl<F: Fn(i64) -> i64> Control<F> {
-    /// The servo before any call, where there is a law for it.
+    /// The servo before any call, if there is a law for it.
     pub fn of(set: ServoSet, law: Option<DelayLaw<F>>) -> Control<F>
         requires set { FitsServoSet set }
         requires fact { IfSome law (KeepsFact F.pre F.post) }
@@ -187,7 +187,7 @@ impl<F: Fn(i64) -> i64> Control<F> {
         }
     }
 
-    /// The state of the servo; UNINIT where there is none.
+    /// The state of the servo; UNINIT if there is none.
     pub fn state(&self) -> ServoState
         ensures { result ≡ state_in self.now.told }
     {
@@ -197,7 +197,7 @@ impl<F: Fn(i64) -> i64> Control<F> {
         }
     }
 
-    /// Whether the lock detector is locked; false where there is none.
+    /// Whether the lock detector is locked; false if there is none.
     pub fn locked(&self) -> bool
         ensures { result ≡ locked_in self.now.told }
     {
@@ -217,7 +217,7 @@ impl<F: Fn(i64) -> i64> Control<F> {
         }
     }
 
-    /// The last DAC value; the bias where there is no servo.
+    /// The last DAC value; the bias if there is no servo.
     pub fn dac(&self) -> u16
         ensures { result ≡ dac_in self.now.bias self.now.told }
     {
@@ -227,8 +227,8 @@ impl<F: Fn(i64) -> i64> Control<F> {
         }
     }
 
-    /// The offset from the parent, in tau, in TRACK alone. None where the node has no servo, where its
-    /// servo is in another state, and where it has no measurement to reckon from; nothing changes.
+    /// The offset from the parent, in tau, in TRACK alone. None if the node has no servo, if its servo
+    /// is in another state, or if it has no measurement to reckon from; nothing changes.
     pub fn tracked(&self) -> Option<Tau>
         ensures { result ≡ tracked_in self.now.told }
     {

@@ -52,8 +52,8 @@ impl Parts {
         }
     }
 
-    /// The four delays of the slave port's link, where it is in WR_LINK_ON. None where the link is in
-    /// another state, and where the node has no slave port; nothing changes.
+    /// The four delays of the slave port's link, if it is in WR_LINK_ON. None if the link is in another
+    /// state, or if the node has no slave port; nothing changes.
     pub fn deltas(&self) -> Option<Deltas>
         ensures { TellsDeltas self.now result }
     {

@@ -67,7 +67,7 @@ pub enum Input {
         port: u16,
         /// Whether it comes.
         up: bool,
-        /// The port's module, where the calibration database lists it.
+        /// The port's module, if the calibration database lists it.
         module: Option<Module>,
     },
     /// The node restarts.
@@ -77,14 +77,14 @@ pub enum Input {
 /// What a node reports of itself.
 #[derive(Clone, Copy, Debug, PartialEq, Eq)]
 pub enum Report {
-    /// The word of a port, where it is another than before.
+    /// The word of a port, if it differs from the one before.
     Link {
         /// The port.
         port: u16,
         /// Its word.
         word: LinkWord,
     },
-    /// The state of the servo, where it is another than before.
+    /// The state of the servo, if it differs from the one before.
     Servo(ServoState),
     /// The node is in TRACK.
     Track {

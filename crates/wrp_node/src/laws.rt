@@ -19,13 +19,13 @@ pub fn step_settles()
     ensures { StepSettles }
 {}
 
-/// A step gives the link of each port what the input is to it: a tick to all, a frame or a
-/// carrier to the one that it came to, a new beginning at a reset, and nothing else.
+/// A step gives the link of each port what the input is to it: a tick to all, a frame or a carrier to
+/// the link at which it arrived, a new beginning at a reset, and nothing else.
 pub fn step_gives_links()
     ensures { StepGivesLinks }
 {}
 
-/// The Signaling messages that a port sends at a step are those that its link sends at what the
+/// The Signaling messages that a port sends at a step are the ones that its link sends after what the
 /// step gives it, in their order, and no others.
 pub fn signals_are_of_link()
     ensures { SignalsAreOfLink }

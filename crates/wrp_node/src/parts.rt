@@ -25,7 +25,7 @@ pub struct Parts {
     pub ticks: u32,
     /// The step of the clock, in periods; 0 for none.
     pub cycles: i64,
-    /// The DAC value, where it is a new one.
+    /// The DAC value, if there is a new one.
     pub dac: Option<u16>,
 }
 

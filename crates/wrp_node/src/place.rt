@@ -156,7 +156,7 @@ impl PortPlace {
         stamp_of(merge(raw, self.transition(), clock), sample)
     }
 
-    // The transition of its module, round the period; 0 where the module is not listed.
+    // The transition of its module, round the period; 0 if the module is not listed.
     fn transition(&self) -> u16
         ensures value { result ≡ transition_in (Some self.now) }
         ensures below { result < 16384 }
@@ -174,7 +174,7 @@ impl PortPlace {
         self.counters.count(reason);
     }
 
-    /// Puts out its word, where it changed, and its frames.
+    /// Puts out its word, if it changed, and its frames.
     pub fn put_out(&self, outs: &mut Outputs)
         requires sound { AllByRecursion IsSound self.now.sends.items }
         requires room { length outs.old.items + 5 ≤ 96 }
@@ -186,7 +186,7 @@ impl PortPlace {
         self.put_frames(outs);
     }
 
-    // Puts out its word, where it changed.
+    // Puts out its word, if it changed.
     fn put_word(&self, outs: &mut Outputs)
         requires room { length outs.old.items + 1 ≤ 96 }
         ensures items { outs.new.items ≡ outs.old.items

@@ -141,7 +141,7 @@ impl Ports {
         }
     }
 
-    /// The port of a number; None where no port has it.
+    /// The port of a number; None if no port has it.
     pub fn place(&self, number: u16) -> Option<&PortPlace>
         ensures { option_map (λ place. place.now) result ≡ place_of number self.now }
     {

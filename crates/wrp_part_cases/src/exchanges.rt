@@ -96,7 +96,7 @@ fn sample(exchange: &mut Exchange, words: &mut Words<'_>) -> Result<(), Fault> {
     Ok(())
 }
 
-// Makes the call of a line. Answers whether its piece was kept, where it is one.
+// Makes the call of a line. Returns whether its piece was kept, if it is one.
 fn make(exchange: &mut Exchange, line: &str) -> Result<Option<bool>, Fault> {
     let mut words = Words::of(line);
     let mut kept = None;

@@ -47,7 +47,7 @@ fn tell(alloc: Global, text: &mut String, octets: &[u8], tlv: Tlv) -> Result<(),
     }
 }
 
-// Appends what the TLV at a place is. Answers the number of its fault, and 0 where it has none.
+// Appends what the TLV at a place is. Returns the number of its fault, and 0 if it has none.
 fn tell_at(alloc: Global, text: &mut String, octets: &[u8], place: usize) -> Result<u8, Fault> {
     if octets.len() <= place {
         return Err(Fault::Condition);

@@ -13,7 +13,7 @@ pub fn halves_of(case: &Case) -> Result<(&str, &str), Fault> {
     input_of(case)?.split_once("---\n").ok_or(Fault::Input)
 }
 
-/// The words of a case, where it has one alone.
+/// The word of a case that has exactly one.
 pub fn only_word(case: &Case) -> Result<&str, Fault> {
     match case.words.as_slice() {
         [word] => Ok(word.as_str()),

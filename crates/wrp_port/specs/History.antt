@@ -22,7 +22,7 @@ use Rattle.wrp_port.specs.Outputs.{call_of, with_call}
 
 -- ---- the link
 
--- what a message is to the link: nothing where there is a reason to drop it early
+-- what a message is to the link: nothing if there is a reason to drop it early
 abbrev pub input_unless : Option Reason → Option LinkIn → Option LinkIn
 input_unless None input = input
 input_unless (Some reason) input = None
@@ -61,7 +61,7 @@ link_of set inputs = link_by set (link_inputs set inputs)
 abbrev pub renews_at : Setting → LinkAt → PtpMsg → Bool
 renews_at set l message = is_none (early_reason set l message) && renews set.ds.role message.head message.body
 
--- the turns of the lease since it was renewed: 0 where a message renews it now, else as they were
+-- the turns of the lease since it was renewed: 0 if a message renews it now, else as they were
 abbrev pub zero_where : Bool → Option ℕ → Option ℕ
 zero_where renewed turns = if renewed then Some 0 else turns
 
@@ -83,14 +83,14 @@ is_fresh_at lease (Some turns) = nat_lt turns lease
 abbrev pub is_fresh : Setting → List PortIn → Bool
 is_fresh set inputs = is_fresh_at set.sched.lease (since_renewal set inputs)
 
--- the turns for which the lease is still fresh: 0 where nothing renewed it, or all its turns passed
+-- the turns for which the lease is still fresh: 0 if nothing renewed it, or all its turns passed
 abbrev pub left_of : ℕ → Option ℕ → ℕ
 left_of lease None = 0
 left_of lease (Some turns) = lease - turns
 
 -- ---- the schedule
 
--- the ticks of the schedule: 0 where the port is not open, since the schedule begins again
+-- the ticks of the schedule: 0 if the port is not open, since the schedule begins again
 abbrev pub while_open : LinkAt → ℕ → ℕ
 while_open l ticks = if is_open l then ticks else 0
 
@@ -113,7 +113,7 @@ is_due_in set every inputs = is_due (link_of set inputs) (ticks_open set inputs 
 
 -- ---- sequenceIds: how many messages of a kind were sent since the last reset
 
--- a count of sent messages, with one more where one is sent
+-- a count of sent messages, with one more if one is sent
 abbrev pub one_more_where : Bool → ℕ → ℕ
 one_more_where sent n = if sent then n + 1 else n
 
@@ -171,7 +171,7 @@ abbrev pub only_at_master : Role → Option ℕ → Option ℕ
 only_at_master Master newest = newest
 only_at_master Slave newest = None
 
--- the sequenceId of the newest Sync that the port sent since the last reset: None where it sent none
+-- the sequenceId of the newest Sync that the port sent since the last reset: None if it sent none
 abbrev pub newest_sync : Setting → List PortIn → Option ℕ
 newest_sync set inputs = only_at_master set.ds.role (newest_of set inputs)
 

@@ -51,7 +51,7 @@ pub enum PortIn {
     Carrier {
         /// Whether it comes.
         up: bool,
-        /// The port's module, where the calibration database lists it.
+        /// The port's module, if the calibration database lists it.
         module: Option<Module>,
     },
     /// A good phase sample.

@@ -131,7 +131,7 @@ impl Rest {
         out
     }
 
-    /// The link's part of a tick: where the port was open before it, the schedule goes on.
+    /// The link's part of a tick: if the port was open before it, the schedule goes on.
     pub fn tick(&mut self, set: &Setting, locked: bool) -> LinkOut
         requires { IsSetting set.now }
         ensures line { self.new ≡ ticked set.now self.old locked }

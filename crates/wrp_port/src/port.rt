@@ -92,13 +92,13 @@ impl Port {
         })
     }
 
-    /// Takes one input, and answers the new word, what the port sends, why a message was dropped, and
-    /// a new measurement. A stamp's value is 0 to `2^93`.
-    /// `word` is None where the word stays, `drop` where no message was dropped, `measured` where the
-    /// input made no pair or the other pair is missing. A message that is dropped for the reasons 9 to
-    /// 12 leaves the port as it was. One that is dropped for 13, as of no use, leaves link, lease,
-    /// schedule, sequenceIds and both pairs as they were; but a Follow_Up takes the Sync of its
-    /// sequenceId that waits for it away, where the sample of that Sync is no longer known.
+    /// Takes one input, and returns the new word, what the port sends, why a message was dropped, and a
+    /// new measurement. A stamp's value is 0 to `2^93`.
+    /// `word` is None if the word stays, `drop` if no message was dropped, `measured` if the input made
+    /// no pair or the other pair is missing. A message that is dropped for the reasons 9 to 12 leaves
+    /// the port as it was. One that is dropped for 13, as of no use, leaves link, lease, schedule,
+    /// sequenceIds and both pairs as they were; but a Follow_Up removes the Sync of its sequenceId that
+    /// waits for it, if the sample of that Sync is no longer known.
     pub fn step(&mut self, input: PortIn) -> PortOut
         requires { IsFit input }
         ensures set { self.new.set ≡ self.old.set }
@@ -190,8 +190,8 @@ impl Port {
         self.line.link.state()
     }
 
-    /// The port's module. None without a carrier, and where the calibration database does not list it.
-    /// The port stays as it is.
+    /// The port's module. None without a carrier, or if the calibration database does not list it. The
+    /// port stays as it is.
     pub fn own_module(&self) -> Option<Module>
         ensures { result ≡ self.now.line.link.own_module }
     {
@@ -259,7 +259,7 @@ impl Answer {
     }
 }
 
-// The second word, where it differs from the first.
+// The second word, if it differs from the first.
 fn change(from: LinkWord, to: LinkWord) -> Option<LinkWord>
     ensures { result ≡ changed_word from to }
 {

@@ -59,7 +59,7 @@ impl Kinds for TopCall {
 // The calls of all crates.
 struct AllCalls;
 
-// What the calls of a crate answer, where those before them have no case of this kind.
+// What the calls of a crate answer, if the calls before them have no case of this kind.
 fn or_else<K: Kinds>(
     before: Result<Answer, Fault>,
     alloc: Global,

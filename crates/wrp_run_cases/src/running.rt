@@ -12,7 +12,7 @@ pub struct Way {
     pub gives: usize,
     /// The call of the source that fails, counted from 1.
     pub source: u32,
-    /// Whether the source fails where it is at its end.
+    /// Whether the source fails when it is at its end.
     pub breaks: bool,
     /// How many octets the sink takes at most at a call.
     pub takes: usize,

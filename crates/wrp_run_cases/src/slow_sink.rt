@@ -38,7 +38,7 @@ impl SlowSink {
         (taken, before)
     }
 
-    // Takes octets, where there is memory for them. Answers whether there is.
+    // Takes octets, if there is memory for them. Returns whether there is.
     fn keep(&mut self, octets: &[u8]) -> bool
         ensures { self.new.faults ≡ self.old.faults }
     {

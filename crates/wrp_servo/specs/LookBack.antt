@@ -10,13 +10,13 @@ use Rattle.wrp_servo.specs.Tags.{heard_tag, tags}
 use Rattle.wrp_servo.specs.Told.{carrier_told, link_told, lease_told, ticks_told, ticks_since_good}
 use Rattle.wrp_servo.specs.Tracking.{enters}
 
--- the phase after a sample, in tau: unchanged where it is not good; else the sum of the wrapped differences of the good tags
--- since the loop's last restart, this one among them
+-- the phase after a sample, in tau: unchanged if it is not good; else the sum of the wrapped differences of the good
+-- tags since the loop's last restart, this one among them
 abbrev pub phase_with : ServoSetting → List ℕ → ℤ → Option ℕ → ℤ
 phase_with x tags before None = before
 phase_with x tags before (Some tag) = unwrapped x.set.clock (tag ∷ tags)
 
--- the phase u at the last good sample since the last reset, in tau: 0 where there was none
+-- the phase u at the last good sample since the last reset, in tau: 0 if there was none
 abbrev pub phase_told : ServoSetting → List Call → ℤ
 phase_told x [] = pos 0
 phase_told x (CallReset ∷ calls) = pos 0

@@ -25,7 +25,7 @@ pub record ServoOf (F : Type 0) : Type 0 where
 abbrev pub servo_setting_of : {F : Type 0} → ServoSet → LawOf F → ServoSetting
 servo_setting_of set law = record { set = set; lo = law.lo; hi = law.hi }
 
--- the answer beside a measurement is one of the law's, where the law is asked
+-- the answer beside a measurement is one of the law's answers, if the law is asked
 abbrev pub IsAnswer : (ℤ → ℤ → Type 0) → ServoSetting → Core → Four → ℤ → Type 0
 IsAnswer answers x v f y = (d : Deltas) → deltas_in_chain v ≡ Some d → IsTrue (is_in x.lo x.hi (x_of d f)) → answers (x_of d f) y
 

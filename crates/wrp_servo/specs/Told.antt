@@ -12,7 +12,7 @@ carrier_told (CallCarrier up ∷ calls) = up
 carrier_told (CallReset ∷ calls) = false
 carrier_told (_ ∷ calls) = carrier_told calls
 
--- the deltas of the link, where it is on
+-- the deltas of the link, if it is on
 abbrev pub link_told : List Call → Option Deltas
 link_told [] = None
 link_told (CallLink on ∷ calls) = on

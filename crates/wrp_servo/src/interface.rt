@@ -39,9 +39,9 @@ pub struct ServoSet {
 pub struct ServoOut {
     /// The periods by which the clock is to be stepped, held within `2^62` either way; 0 for no step.
     pub cycles: i64,
-    /// The new DAC value, where the loop took a sample.
+    /// The new DAC value, if the loop took a sample.
     pub dac: Option<u16>,
-    /// The unwrapped phase, in tau, where the call brought a good sample.
+    /// The unwrapped phase, in tau, if the call brought a good sample.
     pub unwrapped: Option<i64>,
     /// What became of the chain of good samples.
     pub chain: ChainNews,

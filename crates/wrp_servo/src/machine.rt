@@ -11,7 +11,7 @@ use wrp_base::{Deltas, Four, ServoState, Tau};
 pub struct Signals {
     /// Whether there is a carrier.
     pub carrier: bool,
-    /// The fixed delays of the link, where it is on.
+    /// The fixed delays of the link, if it is on.
     pub link: Option<Deltas>,
     /// Whether the lease is fresh.
     pub lease: bool,
@@ -132,8 +132,8 @@ impl Core {
         }
     }
 
-    /// In HOLDOVER a tick is only counted. Elsewhere the chain ends past `gap`, and TRACK is left where
-    /// the four is too old.
+    /// In HOLDOVER a tick is only counted. Elsewhere the chain ends past `gap`, and TRACK is left if the
+    /// four is too old.
     pub fn tick(&mut self)
         requires { self.old.ticks + 1 < 2 ^ 32 }
         ensures { self.new ≡ by_tick self.old }

@@ -54,9 +54,9 @@ impl<F: Fn(i64) -> i64> Servo<F> {
     }
 
     /// A phase sample with number `n`, base 0 to 16383 and 64 beat bits. It is ignored without a carrier
-    /// and in HOLDOVER, and refused (15) where it is glitched or not newer than an earlier one. Any other
+    /// and in HOLDOVER, and refused (15) if it is glitched or not newer than an earlier one. Any other
     /// is good: it moves the phase, the setpoint and the loop, and may start or end the chain.
-    /// An ignored one changes nothing. Of a refused one the number is noted, where it is the greatest so
+    /// An ignored sample changes nothing. The number of a refused one is noted, if it is the greatest so
     /// far, and nothing else changes. Both have neither `dac` nor `unwrapped`. A good one whose phase is
     /// `2^60` tau or more either way has no `dac`: the chain ends, and the loop restarts.
     pub fn sample(&mut self, n: u32, base: u16, bits: u64) -> ServoOut
@@ -164,7 +164,7 @@ impl<F: Fn(i64) -> i64> Servo<F> {
         )
     }
 
-    // x, where it is in the law's range.
+    // x, if it is in the law's range.
     fn x_in(&self, x: Tau) -> Option<i64>
         ensures some { IfSome result (λ z. (z ≡ x) × (self.now.law.lo ≤ℤ z) × (z ≤ℤ self.now.law.hi)
             × (is_in self.now.law.lo self.now.law.hi x ≡ true)) }
@@ -271,7 +271,7 @@ impl<F: Fn(i64) -> i64> Servo<F> {
     }
 
     /// The offset of the slave's clock, in tau, by the four that is kept and the phase since; None
-    /// where there is no four. The servo stays as it is.
+    /// if there is no four. The servo stays as it is.
     pub fn est(&self) -> Option<Tau>
         ensures { result ≡ est_now self.now.core }
     {

@@ -27,7 +27,7 @@ pub struct Suite {
     closed: bool,
 }
 
-// Puts a part of the input in place of another, where a case says so.
+// Puts a part of the input in place of another, if a case says so.
 fn mend(alloc: Global, case: &mut Case) -> Result<(), Fault> {
     if !case.cut.is_empty() {
         case.input = replaced(alloc, &case.input, case.cut.as_str(), case.put.as_str())?;
@@ -160,13 +160,13 @@ impl Suite {
         Ok(Some(case))
     }
 
-    // Takes the closing count: the file is at its end where so many cases have ended.
+    // Takes the closing count: the file is at its end if so many cases have ended.
     fn close(&mut self, count: &str) {
         self.closed = count.parse::<u32>().ok() == Some(self.ended);
     }
 
-    /// Takes a line of a file. It gives the case that ends with it. A word that begins no line of a case begins a case; a
-    /// line of a case where none has begun begins one too, of which no call is known.
+    /// Takes a line of a file. It gives the case that ends with it. A word that begins no line of a case begins a case;
+    /// a line of a case when none has begun begins one too, of which no call is known.
     pub fn take(&mut self, alloc: Global, line: &str) -> Result<Option<Case>, Fault> {
         if line.is_empty() || line.starts_with('#') {
             return Ok(None);

@@ -172,7 +172,7 @@ fn give<F: Fn(i64) -> i64>(trial: &mut Trial<F>, event: &Event) -> Told
     }
 }
 
-/// An event comes; where there was no memory the world is as it was, and the event comes once more.
+/// An event comes; if memory ran out the world is as it was, and the event comes once more.
 pub fn takes<F: Fn(i64) -> i64>(trial: &mut Trial<F>, event: &Event) -> Told
     requires valid { IsValid F.pre F.post trial.old.world }
     requires came { trial.old.world.plant.events ≤ trial.old.came }

@@ -229,7 +229,7 @@ impl Port {
         Answer::using(made, measured)
     }
 
-    // The four stamps of both pairs, where a pair was made.
+    // The four stamps of both pairs, if a pair was made.
     fn four_where(&self, made: bool) -> Option<Four>
         ensures times { IfSome result HasTimes }
         ensures value { (ring : ℕ) (calls : List Call) (pairs : Bool) →

@@ -117,7 +117,7 @@ fn residual(v: &Standing, four: i64) -> i64 {
     four.wrapping_add(v.u).wrapping_sub(error(v))
 }
 
-// The offset of a four without the phase, and its tick, where the delay both ways is in range.
+// The offset of a four without the phase, and its tick, if the delay both ways is in range.
 fn measured(x: Call) -> Option<Option<(i64, u32)>> {
     match x {
         Call::Four { down, up, tick } => {
@@ -232,7 +232,7 @@ fn restarted(v: &Standing) -> Standing {
     w
 }
 
-// The state where the link or the carrier is off.
+// The state if the link or the carrier is off.
 fn grounded(v: &Standing) -> Standing {
     let mut w = ended(v);
     if w.state != ServoState::Holdover {

@@ -31,7 +31,7 @@ pub struct Course {
     pub ends: Option<Ends>,
     /// Whether clocks and fibres move as fast as they may.
     pub wild: bool,
-    /// The rate of the slaves' clocks where their DACs have the value at rest, in 10^-12.
+    /// The rate of the slaves' clocks when their DACs have the value at rest, in 10^-12.
     pub free: i128,
     /// The true one-way delays down of both links.
     pub down: (Tau, Tau),
@@ -105,7 +105,7 @@ impl Course {
         if is_most { At::Most } else { At::Least }
     }
 
-    // The oldest frame departs that waits at the first end where one does.
+    // At the first end where a frame waits, the oldest one departs.
     fn departure(&mut self, seen: &Seen) -> Option<Event> {
         for (end, at) in ENDS.iter().zip(&seen.ends) {
             if at.waits {

@@ -50,7 +50,7 @@ pub struct Plan {
     ends: Option<Ends>,
     // Whether the last event was one that goes wrong.
     went_wrong: bool,
-    // How far sw1 and leaf may be off in TRACK, and how much further in HOLDOVER; `None` where it is not known.
+    // How far sw1 and leaf may be off in TRACK, and how much further in HOLDOVER; `None` if it is not known.
     near: Option<(Tau, Tau, Tau)>,
 }
 
