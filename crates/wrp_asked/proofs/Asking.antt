@@ -219,7 +219,7 @@ first_of_none : (front past : List ℕ) → [] ≡ front ++ past → front ≡ [
 first_of_none [] past e = refl
 first_of_none (octet ∷ front) past e = absurd (cc)
 
--- a refused line ends what was taken but for the rest of its piece
+-- a refused line ends what was taken except for the rest of its piece
 refused_past : (asked : CommandLine) (task : Task) (status : Status) (network given text : List ℕ) (r : ReaderAt) → IsDivided network text r
     → AsksFor asked text task → StopsNear (of_lines (meaning_at task)) status (r.rest ++ given) → (r.ended ≡ true → r.rest ≡ [] → r.rest ++ given ≡ [])
     → (front : List ℕ) × (past : List ℕ) × (network ++ given ≡ front ++ past) × (length past ≤ piece_limit) × EndsRefusedAs asked front status
@@ -505,7 +505,7 @@ part_alone asked alone source given octets ended is taken at_end at =
       | inr due ↦ part_first asked source.before at.0 at.1 (first_alone asked alone source given at.0 ended is taken at_end due)
     ])
 
--- a refused record ends what was taken but for the rest of its piece
+-- a refused record ends what was taken except for the rest of its piece
 past_alone : (run : Run) (alone : Alone) (given : List ℕ) (status : Status) → IsAlone run.asked alone → Consumes run.source.before run.source.now given
     → StopsNear (alone_meaning alone) status given
     → ((front : List ℕ) → (alone_meaning alone).refused status front → EndsRefusedAs run.asked front status) → IfSome run.source.before (TakesPiece run status)

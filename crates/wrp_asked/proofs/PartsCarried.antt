@@ -1,4 +1,4 @@
--- The events of an audit, and those that a simulation makes, carry the parts of the aim.
+-- The events of an audit, and the events that a simulation makes, carry the parts of the aim.
 use Rattle.std.proofs.Common.{true}
 use Rattle.wrp_network_text.specs.SameAnswer.{ReadingIsAccepted}
 use Rattle.wrp_sim.specs.Keeps.{SimRunsAreRuns}

@@ -1,7 +1,7 @@
 -- The aim's part on hops: after each event a node in TRACK is within its hop of its parent, nodes in TRACK below one
 -- parent are within the sum of their hops of each other, and if all nodes on the way to the grandmaster are in TRACK,
--- the offset from true time is within the sum of the hops, with no motion of HOLDOVER (this project's profile). All in
--- tau.
+-- the offset from true time is within the sum of the hops, with no motion of HOLDOVER (this project's profile). All
+-- are in tau.
 use Rattle.std.specs.Prelude.{◌≡◌, ◌+◌, ◌≤◌, ℕ, unsigned_abs, List, ◌∷◌, Some}
 use Rattle.wrp_base.specs.Closeness.{IsWithin}
 use Rattle.wrp_network.specs.declared.network.LinkCfg.{LinkCfg}

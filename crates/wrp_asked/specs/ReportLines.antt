@@ -1,5 +1,5 @@
--- Each report of TRACK in an event, and each that a link is on, has its line among those that are written of the event, so what is
--- said of these lines is not said of none (this project's profile).
+-- Each report of TRACK in an event, and each report that a link is on, has its line among the lines that are written of
+-- the event, so what is said of these lines is not said of none (this project's profile).
 use Rattle.std.specs.Prelude.{◌≡◌, ℕ, ℤ, List, [], ◌∷◌, codes}
 use Rattle.std.specs.Fmt.{decimal, signed_decimal}
 use Rattle.std.specs.List.{AllByRecursion, Contains}

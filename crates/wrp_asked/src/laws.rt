@@ -102,7 +102,7 @@ pub fn track_reports_have_lines()
 {}
 
 /// The same holds of each report that a link is on: among these lines is the one with the name and the tick count of
-/// the node and the port. So what the aim says of such lines speaks of some line wherever a node reports that a link is
+/// the node and the port. So what the aim says of such lines speaks of some line wherever a node reports a link that is
 /// on.
 pub fn link_on_reports_have_lines()
     ensures { LinkOnReportsHaveLines }

@@ -61,7 +61,7 @@ fn are_alike(first: &[NodeOut], second: &[NodeOut]) -> bool {
         && pairs.all(|(a, b)| a.node == b.node && a.input == b.input && a.outs == b.outs)
 }
 
-// The next event of the simulator comes to a world and to its twin, and the world is tested. Answers whether there was one.
+// The next event of the simulator comes to a world and to its twin, and the world is tested. Returns whether one came.
 fn step<F: Fn(i64) -> i64>(
     trial: &mut Trial<F>,
     twin: &mut Trial<F>,

@@ -11,7 +11,7 @@ first_sample (CallStart first ∷ calls) = Some first
 first_sample (CallClear ∷ calls) = None
 first_sample (_ ∷ calls) = first_sample calls
 
--- the phase at a sample that is none before the chain's first and is among these
+-- the phase at a sample that is not before the chain's first and is among these
 abbrev pub phase_since : Option ℕ → List GoodSample → ℕ → Option ℤ
 phase_since None good number = None
 phase_since (Some first) good number = if nat_le first number then phase_in good number else None

@@ -89,7 +89,7 @@ fn push_told(alloc: Global, out: &mut Vec<u8>, call: &LinkCall) -> Result<(), Al
     push_line(out, told.as_str())
 }
 
-/// What a link answers that takes so many calls, of which one fails.
+/// What a link that takes so many calls, of which one fails, answers.
 pub fn told_of_link(alloc: Global, takes: u32, bad: u32, calls: &str) -> Result<Vec<u8>, Fault> {
     let mut out = Vec::new(alloc);
     let mut link = MemLink::new(alloc, takes, vec![in alloc; bad]?)?;

@@ -59,7 +59,7 @@ sound_newest : (xs ys : List PtpMsg) → AllSound xs → AllSound ys → AllSoun
 sound_newest [] ys h k = k
 sound_newest (x ∷ xs) ys h k = h
 
--- the line and the pieces of a port are those of the node
+-- the line and the pieces of a port are the line and the pieces that the node has for it
 pub line_is : (fixed : NodeSetting) (n : NodeAt) (place : PortPlace) → PlaceStands fixed n place → place.port.line ≡ line_at fixed.set n place.number
 line_is fixed n place h = h.told.line ∙ ap (λ (x : Setting). rest_after x (n.told place.number)) h.set
 

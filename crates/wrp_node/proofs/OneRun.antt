@@ -1,4 +1,4 @@
--- The same inputs give the same node, but for answers of the law that nobody asked for, and the same outputs.
+-- The same inputs give the same node, except for answers of the law that nobody asked for, and the same outputs.
 use Rattle.std.proofs.Common.{◌≡◌, ◌∙◌, refl, ap, ap₂, sym, subst, ℕ, ℤ, pos, Bool, true, false, cond, ◌==◌, ◌%◌, ◌&&◌, if◌then◌else◌, IsTrue, List, [], ◌∷◌, ◌++◌, flat_map, Option, None, Some, is_some, Result, Ok, Err, arith}
 use Rattle.wrp_base.specs.declared.link.Deltas.{Deltas}
 use Rattle.wrp_base.specs.declared.measurement.Four.{Four}
@@ -68,7 +68,7 @@ one_call fixed calls others (Some c) h = record {
   servo = ap (λ (v : Core). after (servo_setting_of fixed) v c) h;
 }
 
--- a measurement: if the law is not asked, its answer is of no account
+-- a measurement: if the law is not asked, its answer has no effect
 cond_same : {A : Type 0} (b : Bool) (g : ℤ → A) (z : A) (y w : ℤ) → (IsTrue b → y ≡ w) → cond b (g y) z ≡ cond b (g w) z
 cond_same true g z y w h = ap g (h (grind arith))
 cond_same false g z y w h = refl

@@ -93,7 +93,7 @@ next_before_ports fixed n p =
     ∙ tell_next fixed (lease_change fixed (counted_tick fixed n)) (step_from (counted_tick fixed n)) p
     ∙ lease_next (slave_of fixed.set) (setting_of fixed.set p) n.told p
 
--- ---- the Signaling messages among those that are sent
+-- ---- the Signaling messages among the messages that are sent
 
 append_where : (b : Bool) (m : PtpMsg) (xs ys zs : List PtpMsg) → zs ≡ xs ++ ys → (if b then m ∷ zs else zs) ≡ (if b then m ∷ xs else xs) ++ ys
 append_where true m xs ys zs e = ap (λ (rest : List PtpMsg). m ∷ rest) e

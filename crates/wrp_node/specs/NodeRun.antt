@@ -92,7 +92,7 @@ abbrev pub outputs_at : NodeSetting → List Taken → Taken → List Output
 outputs_at fixed before t =
     outputs_of fixed t.input (node_after fixed before) (node_step fixed t (node_after fixed before))
 
--- what is noted beside an input as said by its octets is what they say
+-- what is noted beside an input, as said by its octets, is what they say
 abbrev pub IsSaid : Input → Result PtpMsg FrameFault → Type 0
 IsSaid (Frame p octets raw sample) says = Says octets.items says
 IsSaid _ says = Unit {0}

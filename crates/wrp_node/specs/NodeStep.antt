@@ -51,7 +51,7 @@ servo_ticked fixed n = tell fixed (for_slave fixed (Some CallTick)) (lease_ticke
 abbrev pub tick_of : NodeSetting → NodeAt → PortIn
 tick_of fixed n = PortTick (locked_of fixed n) (certain_of fixed n)
 
--- last: every port has its tick, and sends what comes of it
+-- last: every port has its tick, and sends what follows from it
 abbrev pub ports_ticked : NodeSetting → Step → Step
 ports_ticked fixed s = record s {
   node = record s.node { told = told_all s.node.told (tick_of fixed s.node) };
@@ -84,7 +84,7 @@ counted_use fixed p input n =
       counters = counted_at n.counters p (drop_of (setting_of fixed.set p) (line_at fixed.set n p) (pieces_at fixed.set n p) input);
     }
 
--- a port takes a message, and sends what comes of it
+-- a port takes a message, and sends what follows from it
 abbrev pub used : NodeSetting → ℕ → PortIn → NodeAt → Step
 used fixed p input n =
     record (step_from (counted_use fixed p input n)) {

@@ -20,7 +20,7 @@ pub record Step : Type 0 where
   pub dac : Option ℕ
   pub sends : ℕ → List PtpMsg
 
--- nothing came of the input yet
+-- nothing has followed from the input yet
 abbrev pub step_from : NodeAt → Step
 step_from n = record { node = n; cycles = pos 0; dac = None; sends = λ p. [] }
 

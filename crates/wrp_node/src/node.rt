@@ -57,7 +57,7 @@ impl<F: Fn(i64) -> i64> Node<F> {
         self.put_out(before, is_tick(x), outs);
     }
 
-    /// Takes an input, and answers what the node gives: as `step_into`, into outputs of its own.
+    /// Takes an input, and returns what the node gives: as `step_into`, into outputs of its own.
     pub fn step(&mut self, x: &Input) -> Outputs
         requires valid { IsValid F.pre F.post self.old }
         requires input { FitsInput self.old x.now }

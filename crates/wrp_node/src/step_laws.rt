@@ -1,8 +1,7 @@
 //! Laws of each step: functions that do nothing, whose contracts are the laws.
 ghost use Rattle.wrp_node.specs.StepLaws.{CommandsAreHeld, OnlyFramesSay, SendsAreFew, TicksAreCounted};
 
-/// What is noted beside an input that is no frame, as said by octets or as answered by the law, is of
-/// no account.
+/// What is noted beside an input that is no frame, as said by octets or as answered by the law, has no effect.
 pub fn only_frames_say()
     ensures { OnlyFramesSay }
 {}

@@ -66,7 +66,7 @@ fn take_lines<F: Fn(i64) -> i64>(
     Ok(())
 }
 
-// What comes of the inputs of a node with this law.
+// What follows from the inputs of a node with this law.
 fn answer_by<F: Fn(i64) -> i64>(
     alloc: Global,
     case: &Case,
@@ -84,7 +84,7 @@ fn answer_by<F: Fn(i64) -> i64>(
     Ok(told.answer())
 }
 
-/// What comes of the inputs of a node.
+/// What follows from the inputs of a node.
 pub fn answer(alloc: Global, case: &Case) -> Result<Answer, Fault> {
     let law = DelayLaw::new(
         |x: i64|

@@ -79,7 +79,7 @@ fn port_of(alloc: Global, case: &Case) -> Result<Port, Fault> {
     Ok(Port::new(alloc, ds, NODE, LINK, sched, RING)?)
 }
 
-/// What comes of the inputs of a port.
+/// What follows from the inputs of a port.
 pub fn answer(alloc: Global, case: &Case) -> Result<Answer, Fault> {
     let mut port = port_of(alloc, case)?;
     let mut told = Told::new(alloc);

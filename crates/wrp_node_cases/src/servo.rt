@@ -63,7 +63,7 @@ fn take_lines<F: Fn(i64) -> i64>(
     Ok(())
 }
 
-// What comes of the calls of a servo with this law.
+// What follows from the calls of a servo with this law.
 fn answer_by<F: Fn(i64) -> i64>(
     alloc: Global,
     case: &Case,
@@ -77,7 +77,7 @@ fn answer_by<F: Fn(i64) -> i64>(
     Ok(told.answer())
 }
 
-/// What comes of the calls of a servo.
+/// What follows from the calls of a servo.
 pub fn answer(alloc: Global, case: &Case) -> Result<Answer, Fault> {
     let law = DelayLaw::new(
         |x: i64|

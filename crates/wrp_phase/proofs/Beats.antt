@@ -41,7 +41,7 @@ ones-complement (suc k) n h =
     let others : (2 ^ suc k - 1 - n) / 2 ≡ 2 ^ k - 1 - n / 2 = omega (arith, pow-suc 2 k) in
     omega (arith, ones_step n, ones_step (2 ^ suc k - 1 - n), ap ones others)
 
--- the zero bits of a sample are those that are not ones
+-- the zero bits of a sample are the bits that are not ones
 zeros-ones : (bits : ℕ) → bits < 2 ^ 64 → count_ones bits + count_zeros w64 bits ≡ 64
 zeros-ones bits h = ones-complement 64 bits h
 

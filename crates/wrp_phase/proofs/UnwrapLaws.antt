@@ -1,4 +1,4 @@
--- One more tag adds its wrapped difference, which is the difference but for whole periods.
+-- One more tag adds its wrapped difference, which is the difference except for whole periods.
 use Rattle.std.proofs.Common.{◌≡◌, ℕ, ℤ, pos, negsuc, neg_ℤ, ◌+◌, ◌*◌, ◌/◌, ◌%◌, ◌<◌, ◌+ℤ◌, ◌≤ℤ◌, ◌<ℤ◌, lit<, Option, List, ◌∷◌, refl, ap₂, sym, arith, subst}
 use Rattle.std.proofs.lemmas.Int.{ints}
 use Rattle.std.proofs.Math.Nat.{div-add-mod, mod-lt}

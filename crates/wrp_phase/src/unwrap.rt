@@ -52,9 +52,9 @@ impl Unwrap {
         self.answer = 0;
     }
 
-    /// Takes a tag, in detector steps, and answers the unwrapped phase, in tau: the sum of the wrapped
-    /// differences of the tags since the last restart. The first one gives 0. A tag of a period or
-    /// more counts round the period.
+    /// Takes a tag, in detector steps, and returns the unwrapped phase, in tau: the sum of the wrapped
+    /// differences of the tags since the last restart. The first one gives 0. A tag of a period or more
+    /// counts round the period.
     pub fn push(&mut self, tag: u16) -> i64
         requires { unsigned_abs self.old.answer < 2 ^ 60 }
         ensures value { self.new ≡ pushed self.old tag }

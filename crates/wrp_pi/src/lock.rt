@@ -65,8 +65,8 @@ impl LockDet {
     /// Takes a phase error, and returns whether the detector is locked after it.
     ///
     /// An error within the threshold raises the count by one, up to `lock`; there it is locked. Any other
-    /// lets a count above `delock` fall by one; a count then at or below `delock` becomes 0, and it is
-    /// unlocked.
+    /// error makes a count above `delock` fall by one; a count then at or below `delock` becomes 0, and
+    /// the detector is unlocked.
     pub fn update(&mut self, e: i32) -> bool
         ensures value { self.new ≡ updated self.old e }
         ensures stands { Adds StandsFor self.old self.new e }

@@ -107,7 +107,7 @@ ticks_open set (Tick locked certain ∷ before) =
     while_open (link_of set (Tick locked certain ∷ before)) (if is_open (link_of set before) then ticks_open set before + 1 else 0)
 ticks_open set (input ∷ before) = ticks_told (link_of set before) (to_link set (link_of set before) input) (ticks_open set before)
 
--- whether the newest of these inputs, a tick, sends a message whose kind comes each so many ticks
+-- whether the newest of these inputs, a tick, sends a message whose kind comes every so many ticks
 abbrev pub is_due_in : Setting → ℕ → List PortIn → Bool
 is_due_in set every inputs = is_due (link_of set inputs) (ticks_open set inputs % every)
 
@@ -117,7 +117,7 @@ is_due_in set every inputs = is_due (link_of set inputs) (ticks_open set inputs 
 abbrev pub one_more_where : Bool → ℕ → ℕ
 one_more_where sent n = if sent then n + 1 else n
 
--- the messages of a kind that comes each so many ticks
+-- the messages of a kind that comes every so many ticks
 abbrev pub sent_each : ℕ → Setting → List PortIn → ℕ
 sent_each every set [] = 0
 sent_each every set (Reset ∷ before) = 0
@@ -125,7 +125,7 @@ sent_each every set (Tick locked certain ∷ before) =
     one_more_where (is_due_in set every (Tick locked certain ∷ before)) (sent_each every set before)
 sent_each every set (_ ∷ before) = sent_each every set before
 
--- Announce and Sync are of a master, Delay_Req of a slave
+-- Announce and Sync are sent by a master, Delay_Req by a slave
 abbrev pub at_master : Role → ℕ → ℕ
 at_master Master n = n
 at_master Slave n = 0
@@ -147,7 +147,7 @@ syncs set inputs = at_master set.ds.role (sent_each set.sched.sync set inputs)
 abbrev pub requests : Setting → List PortIn → ℕ
 requests set inputs = at_slave set.ds.role (sent_each set.sched.delay set inputs)
 
--- so many messages, and those that the link sends for an input, if there is one
+-- so many messages, and the ones that the link sends for an input, if there is one
 abbrev pub signals_told : LinkAt → Option LinkIn → ℕ → ℕ
 signals_told l None sent = sent
 signals_told l (Some input) sent = sent + length (sends_of l input)

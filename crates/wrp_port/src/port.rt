@@ -43,7 +43,7 @@ impl Model for Port {
     ghost invariant = { λ p. IsSetting p.set };
 }
 
-// What a port answers, but for its word and what it sends.
+// What a port answers, except its word and what it sends.
 #[derive(Drop)]
 struct Answer {
     // The number of the reason for which a message was dropped.
@@ -124,8 +124,8 @@ impl Port {
         out
     }
 
-    /// Takes one input, and fills `out` with what `step` answers. What `out` had before is gone. What a
-    /// None says, and what a dropped message leaves, is as `step` has it.
+    /// Takes one input, and fills `out` with what `step` returns. What `out` had before is gone. What a
+    /// None says, and what a dropped message leaves, is as for `step`.
     pub fn step_into(&mut self, input: PortIn, out: &mut PortOut)
         requires { IsFit input }
         ensures set { self.new.set ≡ self.old.set }

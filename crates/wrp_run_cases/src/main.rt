@@ -1,6 +1,6 @@
 //! `wrp_run_cases`: the program that runs all cases. Its words name case files; docs/CASES.md says what is in one. It
-//! reports each case that differs on standard error, and prints `N passed, M failed`; the process ends with 1 if one
-//! failed.
+//! reports each case that differs on standard error, and prints `N passed, M failed`; if one failed, the process ends
+//! with 1.
 //!
 //! The kinds of this crate are nine, on the top call. A case `run` hands its words and its input to `run`, and what the
 //! sink takes and the number of the status are expected; `reads` and `writes` do so with each call of the source and of

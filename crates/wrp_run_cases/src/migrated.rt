@@ -7,8 +7,7 @@
 //!     fibre NAME KAPPA ERR
 //!     table NAME TABLE_ERR : X,Y X,Y ..
 //!
-//! A text that is refused is printed as `refused CODE PLACE`. What was written with another status is expected
-//! unchanged.
+//! A text that is refused is printed as `refused CODE PLACE`. What was written with another status is expected as is.
 use crate::running::{AT_ONCE, borrowed, ran};
 use std::alloc::{AllocError, Global};
 use wrp_base::ConfFault;

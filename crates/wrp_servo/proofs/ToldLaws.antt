@@ -106,7 +106,7 @@ unfolding told-by
 told-ticks h CallReset = omega arith
 told-ticks h _ = omega arith
 
--- a call brings one tick at the most
+-- a call brings at most one tick
 pub after-ticks : (x : ServoSetting) (v : Core) (call : Call) → (after x v call).ticks ≤ v.ticks + 1
 after-ticks x v call = subst (λ (n : ℕ). n ≤ v.ticks + 1) (sym (ap (λ (h : Heart). h.ticks) (call-heart x v call))) (told-ticks (heart v) call)
 

@@ -1,5 +1,5 @@
--- What a servo holds after a list of calls, by looking back over it, and the causes judged there (this project's
--- profile).
+-- What a servo holds after a list of calls, by looking back over it, and the causes as judged there (this
+-- project's profile).
 use Rattle.std.specs.Prelude.{ℕ, ℤ, pos, ◌-◌, max, Bool, cond, not, ◌&&◌, ◌||◌, is_some, Option, None, Some, List, [], ◌∷◌}
 use Rattle.wrp_phase.specs.Unwrapping.{last_tag, unwrapped}
 use Rattle.wrp_servo.specs.declared.machine.Core.{Core}

@@ -128,7 +128,7 @@ impl Core {
         }
     }
 
-    /// Keeps a four, and answers the commanded periods.
+    /// Keeps a four, and returns the commanded periods.
     pub fn place(&mut self, kept: Measurement) -> i64
         requires u { unsigned_abs self.old.phase.u < 2 ^ 61 }
         requires room { HasRoom self.old }

@@ -49,7 +49,7 @@ impl Machine {
         self.core.reset();
     }
 
-    /// Takes a sample, and answers what became of it; `Core::sample` says what each case leaves.
+    /// Takes a sample, and returns what became of it; `Core::sample` says what each case leaves.
     pub fn sample(&mut self, n: u32, base: u16, bits: u64) -> Heard
         requires { base < 16384 }
         ensures state { self.new ≡ by_sample self.old n base bits }
@@ -102,7 +102,7 @@ impl Machine {
         self.core.end();
     }
 
-    /// Keeps a four with the law's answer, and answers the commanded periods.
+    /// Keeps a four with the law's answer, and returns the commanded periods.
     pub fn take_four(&mut self, four: &Four, deltas: &Deltas, answer: i64) -> i64
         requires four { FitsTimes four.now }
         requires deltas_in_chain { deltas_in_chain self.old ≡ Some deltas.now }

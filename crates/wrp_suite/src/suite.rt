@@ -83,7 +83,7 @@ fn set(alloc: Global, case: &mut Case, name: &str, text: &str) -> Result<(), Fau
     Ok(())
 }
 
-// Takes a line of a case. Answers whether it is one.
+// Takes a line of a case. Returns whether it is one.
 fn take_part(
     alloc: Global,
     case: &mut Case,

@@ -61,7 +61,7 @@ const LISTS: [&[Call]; 3] = [
     ],
 ];
 
-// Makes one call. Answers whether its piece was kept.
+// Makes one call. Returns whether its piece was kept.
 fn make(exchange: &mut Exchange, call: Call) -> bool {
     match call {
         Start(first) => exchange.start(first),

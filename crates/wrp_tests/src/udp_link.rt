@@ -25,7 +25,7 @@ fn local() -> SocketAddrV4 {
     SocketAddrV4::new(Ipv4Addr::LOCALHOST, 0)
 }
 
-// How often a test asks for what the system may take a while to bring.
+// How often a test asks for what the system may take a while to deliver.
 const PATIENCE: u32 = 1_000_000;
 
 // The first datagram that comes at an end.

@@ -129,7 +129,7 @@ fn number_of_fault(fault: CalibFault) -> u8 {
     }
 }
 
-// Appends what a calibration answers, and answers its number.
+// Appends what a calibration answers, and returns its number.
 fn tell(text: &mut String, told: Result<CalibOut, CalibFault>) -> Result<u8, AllocError> {
     match told {
         Ok(out) => tell_spans(text, &out).map(|()| 0),

@@ -1,4 +1,4 @@
-//! A world under test: its network with its laws, and what comes of an event.
+//! A world under test: its network with its laws, and what follows from an event.
 ghost use Rattle.std.specs.Prelude.{◌≡◌, ◌≤◌, length, IfOk, IsTrue};
 ghost use Rattle.wrp_network.specs.Network.{node_count};
 ghost use Rattle.wrp_config.specs.Accepted.{IsAccepted};
@@ -39,7 +39,7 @@ impl<T: Drop> From<AllocFailed<T>> for Lack {
     }
 }
 
-/// What comes of an event.
+/// What follows from an event.
 #[derive(Clone, Copy, Debug, PartialEq, Eq)]
 pub enum Told {
     /// It is taken.

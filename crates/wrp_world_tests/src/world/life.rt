@@ -69,7 +69,7 @@ fn event(number: u32) -> Event {
     }
 }
 
-// What comes of an event: only the last one is refused, since the frame is older than 100 ms by 1 tau.
+// What follows from an event: only the last one is refused, since the frame is older than 100 ms by 1 tau.
 fn due(number: u32) -> Told {
     if number == 112 {
         Told::Broken(10, 6_553_600_000_000_001, 6_553_600_000_000_000)

@@ -274,7 +274,7 @@ impl Plan {
         }
     }
 
-    /// Sees how far the run has come, and answers whether it is over.
+    /// Sees how far the run has come, and returns whether it is over.
     pub fn is_over(&mut self, seen: &Seen) -> bool {
         if self.aim == Aim::Handshake {
             self.handshake.sees(seen);
@@ -314,8 +314,8 @@ impl Plan {
         }
     }
 
-    /// Whether a run that is over ends as it has to: a handshake is done, and a run that is to stay in TRACK is there; of
-    /// both, the ends of the upper link are in WR_LINK_ON.
+    /// Whether a run that is over ends as it has to: a handshake is done, and a run that is to stay in TRACK is there;
+    /// in both, the ends of the upper link are in WR_LINK_ON.
     pub fn ends_well(&self, seen: &Seen) -> bool {
         let are_on = seen.ends[0].on && seen.ends[1].on;
         match self.aim {
