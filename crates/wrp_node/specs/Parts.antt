@@ -42,7 +42,7 @@ pub record PlaceIn (fixed : NodeSetting) (before : NodeAt) (s : Step) (place : P
   pub sends : place.sends.items ≡ s.sends place.number
   pub sound : AllByRecursion IsSound place.sends.items
 
--- a node but its servo, between inputs
+-- a node without its servo, between inputs
 pub record PartsAt (fixed : NodeSetting) (n : NodeAt) (parts : Parts) : Type 0 where
   pub numbers : map (λ place. place.number) parts.ports ≡ numbers_of fixed.set
   pub places : AllByRecursion (PlaceStands fixed n) parts.ports

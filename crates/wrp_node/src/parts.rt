@@ -1,4 +1,4 @@
-//! A node but its servo: the ports, the tick count, and what the present input commands.
+//! A node without its servo: the ports, the tick count, and what the present input commands.
 ghost use Rattle.std.specs.Prelude.{◌≡◌, map};
 ghost use Rattle.wrp_data.specs.Reason.{IsReason};
 ghost use Rattle.wrp_node.specs.Parts.{Begun, Leads, AnswerTaken, given, told_only, slave_told, reason_counted, commanded};

@@ -36,7 +36,7 @@ pub struct PortPlace {
     pub word: LinkWord,
     /// What the input makes it send.
     pub sends: ArrayVec<PtpMsg, 4>,
-    /// What it lends to the port for its answer; from there the measurement is read that a message made.
+    /// What it lends to the port for its answer; the measurement that a message made is read from there.
     pub lent: PortOut,
 }
 

@@ -1,4 +1,4 @@
-//! Cases on `Network::read`: the input is a network file. If it is accepted, each word of the case has a line:
+//! Cases on `Network::read`, whose input is a network file. If it is accepted, a line is expected for each word:
 //!
 //!     network.KEY         a number of `[network]`, as the file has it (`settings` says more of them)
 //!     NODE.KEY            a number or a bound of a node (`nodes`)
