@@ -1,4 +1,4 @@
--- What is shown of each command that stands alone, for all that is told of it above.
+-- What is shown of each command that stands alone, for all that is said of it above.
 use Rattle.std.proofs.Common.{◌≡◌, ◌⊎◌, refl, true, ℕ, List, [], ◌++◌, take}
 use Rattle.wrp_io.specs.declared.link.LinkCall.{LinkCall}
 use Rattle.wrp_records.specs.RecordsAnswer.{HasAnswer}
@@ -21,13 +21,14 @@ by_lines M input due = (due.0, due.1, (refl, due.2))
 abbrev pub IsFirstOf : Meaning → List ℕ → List ℕ → Type 0
 IsFirstOf M input octets = (octets ≡ []) ⊎ ((calls : List LinkCall) × M.first input calls octets)
 
--- the first octets of an answer that is due, or of what the first records write
+-- the first octets of an expected answer, or of what the first records write
 abbrev pub IsPartOf : Meaning → List ℕ → List ℕ → Type 0
 IsPartOf M input octets =
     (whole : List ℕ) × (count : ℕ) × (octets ≡ take count whole)
     × (((status : Status) × M.answers input [] status whole) ⊎ IsFirstOf M input whole)
 
--- what a run left of an input: an answer that is due, or what stands where the source failed, without memory, or where a write failed; no link fails
+-- what a run left of an input: an expected answer, or what is written if the source failed, if memory ran out, or if a
+-- write failed; no link fails
 pub record Leaves (M : Meaning) (input : List ℕ) (status : Status) (octets : List ℕ) : Type 0 where
   pub answer : is_answer status ≡ true → M.answers input [] status octets
   pub cut : status ≡ ReadFault → (taken : List ℕ) × (left : List ℕ) × (input ≡ taken ++ left) × M.cut taken octets
@@ -35,8 +36,8 @@ pub record Leaves (M : Meaning) (input : List ℕ) (status : Status) (octets : L
   pub part : status ≡ WriteFault → IsPartOf M input octets
   pub linked : status ≡ LinkFault → ⊥
 
--- one status and one text are due for an input and some calls, of no call, and the status is one of its own; for each input some are due;
--- no link fails; and what a run left has the aim
+-- for an input and some calls one status and one text are expected, the calls are none, and the status is one of its
+-- own; for each input some are expected; no link fails; and what a run left has the aim
 pub record IsAloneCommand (alone : Alone) : Type 0 where
   pub one :
       (input : List ℕ) (calls : List LinkCall) (s t : Status) (o u : List ℕ) → (alone_meaning alone).answers input calls s o →

@@ -1,4 +1,4 @@
--- What a command that stands alone wrote is what is due for its input, and so its aim holds of it.
+-- What a command that stands alone wrote is what is expected for its input, and so its aim holds of it.
 use Rattle.std.proofs.Common.{◌≡◌, ◌∙◌, ap, inl, inr, refl, sym, subst, true, false, ℕ, Option, None, Some, IfSome, List, ◌++◌}
 use Rattle.std.specs.Io.KnownBytes.{Appends, Consumes}
 use Rattle.wrp_io.specs.declared.link.LinkCall.{LinkCall}
@@ -28,7 +28,7 @@ due_alone asked alone input calls status octets is (inr (inr looped)) =
 due_alone asked alone input calls status octets is (inr (inl own)) =
     subst (λ (a : Alone). (alone_meaning a).answers input calls status octets) (one_alone asked own.0 alone own.1 is) own.2
 
--- and no refusal stands in front of it
+-- and nothing is refused before it
 answer_alone : (asked : CommandLine) (alone : Alone) (input : List ℕ) (calls : List LinkCall) (status : Status) (octets : List ℕ) → IsAlone asked alone
     → Answer asked input calls status octets
     → (alone_meaning alone).answers input calls status octets
@@ -46,7 +46,7 @@ answer_alone asked alone input calls TooLarge octets is h = elim h [
 ]
 answer_alone asked alone input calls status octets is h = due_alone asked alone input calls status octets is h
 
--- what stands behind a failed read is its own, and so is what stands where there was no memory
+-- what is written after a failed read is the command's own, and so is what is written if memory ran out
 own_cut : (asked : CommandLine) (alone : Alone) (taken octets : List ℕ) → IsAlone asked alone → CutAnswer asked taken octets
     → (alone_meaning alone).cut taken octets
 own_cut asked alone taken octets is (inl network) = absurd (alone_unnetworked asked alone is network.0)
@@ -72,13 +72,13 @@ own_part asked alone input octets calls is (whole, count, octets_are, inl (statu
 own_part asked alone input octets calls is (whole, count, octets_are, inr first) =
     (whole, count, octets_are, inr (own_first asked alone input whole calls is first))
 
--- what was taken stands first in the input
+-- what was taken is the first part of the input
 taken_front : (before now : Option (List ℕ)) (input taken : List ℕ) → before ≡ Some input → Consumes before now taken
     → (left : List ℕ) × (input ≡ taken ++ left)
 taken_front before None input taken known took = absurd (subst (λ (o : Option (List ℕ)). Consumes o None taken) known took)
 taken_front before (Some left) input taken known took = (left, subst (λ (o : Option (List ℕ)). Consumes o (Some left) taken) known took)
 
--- what a run wrote of an input that the source told
+-- what a run wrote of an input that the source reports
 abbrev Told : Run → Alone → List ℕ → Status → Type 0
 Told run alone input status = (octets : List ℕ) × Wrote run octets × Leaves (alone_meaning alone) input status octets
 

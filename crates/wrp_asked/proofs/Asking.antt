@@ -1,4 +1,4 @@
--- What stands at the end of a run, told of the words and the whole input.
+-- What holds at the end of a run, said of the words and the whole input.
 use Rattle.std.proofs.Common.{◌≡◌, inl, inr, true, false, Bool, ℕ, ◌<◌, ◌≤◌, Option, None, Some, IfSome, Err, List, [], ◌∷◌, ◌++◌, length, take, refl, sym, ap, ◌∙◌, subst, append_assoc, append-nil, option_map}
 use Rattle.std.specs.Io.KnownBytes.{Appends, Consumes, IsAtEnd}
 use Rattle.std.proofs.KnownBytes.{Appends-nil, Consumes-trans}
@@ -32,7 +32,7 @@ use Rattle.wrp_asked.specs.Tasks.{Task, Replay, Audit, Emit, Simulate, Loop, Ask
 use Rattle.wrp_asked.proofs.AloneTable.{facts_of}
 use Rattle.wrp_asked.proofs.NetworkTable.{task_facts}
 
--- what is due for the records is due for the words and the input
+-- what is expected for the records is expected for the words and the input
 answer_of : (asked : CommandLine) (input : List ℕ) (task : Task) (status : Status) (octets : List ℕ) → AsksFor asked (network_text input) task
     → RecordsAnswer (meaning_at task) (behind_separator (lines_of input)) status octets → Answer asked input [] status octets
 answer_of asked input task Done octets has due = inl (task, has, due, refl)
@@ -42,7 +42,7 @@ answer_of asked input task TooLarge octets has due = inr (inl (task, has, due, r
 answer_of asked input task BadCalib octets has due = inl (task, has, due, refl)
 answer_of asked input task _ octets has due = absurd due
 
--- no call leaves the calls that a link tells
+-- without a call, the calls that a link reports stay the same
 pub uncalled : (link : Passage (List LinkCall)) → link.now ≡ link.before → link.now ≡ option_map (λ told. told ++ []) link.before
 uncalled link same = same ∙ none link.before
   where
@@ -137,7 +137,7 @@ firsts asked (Some input) source text given octets r ended task net taken at_end
     (λ more on. (due more on).1) in
     inr (inl (task, has.0, has.1, refl))
 
--- a part of what is due
+-- a part of what is expected
 part_told : (asked : CommandLine) (first : Option (List ℕ)) (status : Status) (due : List ℕ) (count : ℕ)
     → IfSome first (λ input. Answer asked input [] status due) → IfSome first (λ input. PartAnswer asked input [] (take count due))
 part_told asked None status due count has = tt
@@ -163,7 +163,7 @@ none_of_two : (given left : List ℕ) → [] ≡ given ++ left → given ≡ []
 none_of_two [] left e = refl
 none_of_two (octet ∷ given) left e = absurd (cc)
 
--- a line among those behind a network text is refused, where the octets behind the text are these
+-- one of the lines after a network text is refused, if the octets after the text are these
 refused_behind : (M : LineMeaning) (refusal : Refusal) (lines others : List (List ℕ)) (text : List ℕ) → others ≡ lines → (at : IsRefused M refusal lines text)
     → at.behind ≡ []
     → (here : IsRefused M refusal others text) × (here.behind ≡ [])
@@ -219,7 +219,7 @@ first_of_none : (front past : List ℕ) → [] ≡ front ++ past → front ≡ [
 first_of_none [] past e = refl
 first_of_none (octet ∷ front) past e = absurd (cc)
 
--- a refused line ends what was taken but for the rest of its piece
+-- a refused line ends what was taken except for the rest of its piece
 refused_past : (asked : CommandLine) (task : Task) (status : Status) (network given text : List ℕ) (r : ReaderAt) → IsDivided network text r
     → AsksFor asked text task → StopsNear (of_lines (meaning_at task)) status (r.rest ++ given) → (r.ended ≡ true → r.rest ≡ [] → r.rest ++ given ≡ [])
     → (front : List ℕ) × (past : List ℕ) × (network ++ given ≡ front ++ past) × (length past ≤ piece_limit) × EndsRefusedAs asked front status
@@ -234,7 +234,7 @@ refused_past asked task status network given text r divided asks at empty =
           absurd (none_refused (meaning_at task) status at.front (first_of_none at.front at.past nothing) at.refused)
     ]
 
--- where a record is refused
+-- if a record is refused
 past_told : (run : Run) (middle : Option (List ℕ)) (text given : List ℕ) (r : ReaderAt) (task : Task) (status : Status)
     → TookNetwork run.asked run.source.before middle text r task → Consumes middle run.source.now given
     → StopsNear (of_lines (meaning_at task)) status (r.rest ++ given) → IfSome run.source.before (TakesPiece run status)
@@ -263,7 +263,7 @@ past_told run middle text given r task status net taken at =
           refused = found.4;
         }
 
--- where the source failed behind the network text
+-- if the source failed after the network text
 cut_told : (asked : CommandLine) (network given text octets : List ℕ) (r : ReaderAt) (task : Task) → IsDivided network text r → AsksFor asked text task
     → (r.ended ≡ true → ⊥) → CutHandled (meaning_at task).accepts (r.rest ++ given) octets → CutTask asked (network ++ given) octets
 cut_told asked network given text octets r task divided asks goes cut =
@@ -285,7 +285,7 @@ cut_told asked network given text octets r task divided asks goes cut =
 pub networked_of : (asked : CommandLine) (text : List ℕ) (task : Task) → AsksFor asked text task → IsNetworked asked
 networked_of asked text task asks = ((task_row task).command, asks.1)
 
--- a premise is broken only where events are audited
+-- a premise is broken only if events are audited
 broken_asks : (asked : CommandLine) (text : List ℕ) (task : Task) (lines : List (List ℕ)) (due : List ℕ) → AsksFor asked text task
     → RecordsAnswer (meaning_at task) lines Broken due → AsksEvents asked
 broken_asks asked text (Replay name site) lines due asks at = absurd at.refused
@@ -294,7 +294,7 @@ broken_asks asked text (Emit name setting node) lines due asks at = inr (name, a
 broken_asks asked text (Simulate setting seed) lines due asks at = absurd at.refused
 broken_asks asked text (Loop setting seed) lines due asks at = absurd at.refused
 
--- what is due at the end is due however the input goes on
+-- what is expected at the end is expected however the input goes on
 due_at_end : (M : LineMeaning) (taken : List ℕ) (ended : Bool) (octets : List ℕ) → After (of_lines M) taken ended [] Done octets
     → IsDue (of_lines M) taken ended [] Done octets
 due_at_end M taken ended octets at more on =
@@ -387,12 +387,12 @@ pub told_no_usage : (asked : CommandLine) (first : Option (List ℕ)) → IfSome
 told_no_usage asked None none = tt
 told_no_usage asked (Some input) none = (inr none, refl, refl)
 
--- where the words are no command
+-- if the words are no command
 pub told_usage : (asked : CommandLine) (first : Option (List ℕ)) → (IsCommand asked → ⊥) → IfSome first (λ input. Answer asked input [] Usage asked.usage)
 told_usage asked None none = tt
 told_usage asked (Some input) none = (inl none, refl, refl)
 
--- where nothing was written
+-- if nothing was written
 pub nothing_first : (asked : CommandLine) (first : Option (List ℕ)) → IfSome first (λ input. FirstAnswer asked input [] [])
 nothing_first asked None = tt
 nothing_first asked (Some input) = inl (refl, refl)
@@ -469,7 +469,7 @@ whole_told P source given ended taken at_end told = go source.before source.now 
     go (Some input) None taken at_end = absurd taken
     go (Some input) (Some left) taken at_end = subst P (sym taken) (told left at_end)
 
--- what it answers is due for its word
+-- what it answers is expected for its word
 alone_answers : (asked : CommandLine) (alone : Alone) (input : List ℕ) (status : Status) (due : List ℕ) → IsAlone asked alone
     → (alone_meaning alone).answers input [] status due → Answer asked input [] status due
 alone_answers asked alone input Usage due is has = absurd ((facts_of alone).no_usage input due has)
@@ -493,7 +493,7 @@ first_alone : (asked : CommandLine) (alone : Alone) (source : Passage (List ℕ)
 first_alone asked alone source given octets ended is taken at_end due =
     whole_told (λ input. FirstAnswer asked input [] octets) source given ended taken at_end (λ more on. inr (inr (inl (alone, is, due more on))))
 
--- a part of what is due
+-- a part of what is expected
 part_alone : (asked : CommandLine) (alone : Alone) (source : Passage (List ℕ)) (given octets : List ℕ) (ended : Bool) → IsAlone asked alone
     → Consumes source.before source.now given
     → (ended ≡ true → IsAtEnd source.now) → After (alone_meaning alone) given ended [] WriteFault octets
@@ -505,7 +505,7 @@ part_alone asked alone source given octets ended is taken at_end at =
       | inr due ↦ part_first asked source.before at.0 at.1 (first_alone asked alone source given at.0 ended is taken at_end due)
     ])
 
--- a refused record ends what was taken but for the rest of its piece
+-- a refused record ends what was taken except for the rest of its piece
 past_alone : (run : Run) (alone : Alone) (given : List ℕ) (status : Status) → IsAlone run.asked alone → Consumes run.source.before run.source.now given
     → StopsNear (alone_meaning alone) status given
     → ((front : List ℕ) → (alone_meaning alone).refused status front → EndsRefusedAs run.asked front status) → IfSome run.source.before (TakesPiece run status)
@@ -528,7 +528,7 @@ past_alone run alone given status is taken at means = go run.source.before run.s
 alone_done : (M : Meaning) (taken : List ℕ) (ended : Bool) (octets : List ℕ) → After M taken ended [] Done octets → IsDue M taken ended [] Done octets
 alone_done M taken ended octets at more on = subst (λ (l : List ℕ). M.answers l [] Done octets) (sym (ap (λ l. taken ++ l) (on at.0) ∙ append-nil taken)) at.1
 
--- a command that stands alone may answer what is due
+-- a command that stands alone may answer what is expected
 may_alone : (alone : Alone) (given octets : List ℕ) (ended : Bool) (status : Status) → IsDue (alone_meaning alone) given ended [] status octets
     → MayAnswer alone status
 may_alone alone given octets ended status due = (facts_of alone).may (given ++ []) status octets (due [] (λ e. refl))

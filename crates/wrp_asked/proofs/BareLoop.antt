@@ -299,7 +299,7 @@ text_bare s events = ap concat (sym (lines_bare s events))
 closing_bare : (s : Setting) (l : LoopAt) → closing_lines s l ≡ closing_lines (bare_setting s) l
 closing_bare s l = ap (λ (counts : List ℕ). counts ++ concat (forged_lines l.forged)) (sym (counts_text s (events_at l)))
 
--- What is due
+-- What is expected
 
 closes_bare : (s : Setting) (seed : ℕ) (calls : List LinkCall) (lines : List (List ℕ)) (last : List ℕ) → LoopCloses s seed calls lines last
     → LoopCloses (bare_setting s) seed calls lines last

@@ -1,5 +1,5 @@
--- What a run wrote is what is due for what is asked, its input, the calls of its link and its status, whichever command on a network it
--- is; where the sink failed, the first octets of what is due for another status.
+-- What a run wrote is what is expected for what is asked, its input, the calls of its link and its status, for every
+-- command on a network; if the sink failed, the first octets of what is expected for another status.
 use Rattle.std.proofs.Common.{◌≡◌, ◌⊎◌, inl, inr, sym, subst, ℕ, Option, None, Some, IfSome, List, [], ◌++◌}
 use Rattle.std.specs.Io.KnownBytes.{Appends, Consumes}
 use Rattle.wrp_commands.specs.Request.{CommandLine, Networked}
@@ -16,13 +16,13 @@ use Rattle.wrp_records.specs.RecordsAnswer.{RecordsAnswer, StandsFirst}
 use Rattle.wrp_asked.specs.Tasks.{Task, AsksFor, IsOnNetwork, meaning_at}
 use Rattle.wrp_asked.proofs.WordLemmas.{alone_unnetworked, networked_command, one_command}
 
--- what is due for an input, the calls of a link and a status
+-- what is expected for an input, the calls of a link and a status
 abbrev pub DueFor : Type 1
 DueFor = List ℕ → List LinkCall → Status → List ℕ → Type 0
 
--- so it is of a command on a network, by the ways in which its run may end: its node is missing; no record is reached; its records
--- tell, all of them, or the first where there was no memory or the source failed; and the calls of its link tell, all of them, or the
--- first where there was no memory or a call failed
+-- so it is for a command on a network, by the ways in which its run may end: its node is missing; no record is reached;
+-- its records decide, all of them, or the first if memory ran out or the source failed; and the calls of its link
+-- decide, all of them, or the first if memory ran out or a call failed
 pub record IsDueSo (asked : CommandLine) (Due : DueFor) : Type 0 where
   pub command : Networked
   pub on : IsOnNetwork asked command
@@ -51,7 +51,7 @@ usage_due : (asked : CommandLine) (input : List ℕ) (Due : DueFor) → IsDueSo 
 usage_due asked input Due so (inl none) = absurd (none (networked_command asked (so.command, so.on)))
 usage_due asked input Due so (inr none) = so.no_node input none
 
--- where no link was called
+-- if no link was called
 uncalled : (Due : DueFor) (input : List ℕ) (calls : List LinkCall) (status : Status) (octets : List ℕ) → calls ≡ [] → Due input [] status octets
     → Due input calls status octets
 uncalled Due input calls status octets none due = subst (λ (c : List LinkCall). Due input c status octets) (sym none) due
@@ -105,7 +105,7 @@ consumed asked input taken octets (Some left) Due so took h = cut_answer asked i
 
 -- A run
 
--- a run wrote some octets, and these calls of its link tell of them
+-- a run wrote some octets, and these calls of its link decide them
 abbrev pub PrintsDue : DueFor → Run → Status → List ℕ → Type 0
 PrintsDue Due run status input =
     (octets : List ℕ) × (calls : List LinkCall) × Appends run.sink.before run.sink.now octets × Called run calls × Prints (Due input calls) status octets

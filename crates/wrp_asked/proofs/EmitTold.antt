@@ -1,4 +1,4 @@
--- What an audit that was asked for the inputs of a node wrote are these, and what stands behind them, by its status.
+-- What an audit that was asked for the inputs of a node wrote is these inputs, and what follows them, by its status.
 use Rattle.std.proofs.Common.{◌≡◌, ◌⊎◌, inl, inr, refl, sym, subst, ℕ, Option, None, Some, IfSome, List, [], ◌++◌}
 use Rattle.std.specs.Io.KnownBytes.{Appends}
 use Rattle.wrp_course.specs.Setting.{Setting}
@@ -26,7 +26,7 @@ use Rattle.wrp_asked.proofs.WordLemmas.{one_command}
 abbrev pub IsInputDue : CommandLine → List ℕ → List LinkCall → Status → List ℕ → Type 0
 IsInputDue asked input calls status due = LacksNode asked input status due ⊎ (ReachesNone input status due ⊎ InputsOf asked input status due)
 
--- where the inputs of a node are asked for, what holds of every task holds if it does of these
+-- if the inputs of a node are asked for, what holds of every task holds if it does of these
 only_inputs : (asked : CommandLine) (name text : List ℕ) (P : Task → Type 0) (Q : Type 0) → IsEmission asked name
     → ((own : List ℕ) (s : Setting) (n : ℕ) → AsksFor asked text (Emit own s n) → P (Emit own s n) → Q) → (task : Task) → AsksFor asked text task → P task → Q
 only_inputs asked name text P Q emits f (Emit own s n) asks h = f own s n asks h
@@ -66,7 +66,7 @@ task_first asked name input octets task emits asks first =
     inr (inr (only_inputs asked name (network_text input) (λ t. StandsFirst (meaning_at t) (behind_separator (lines_of input)) octets) (InputsOf asked input OutOfMemory octets) emits
     (λ name s n own due. inputs_of asked input OutOfMemory octets name s n own (stand_first input octets s (emission_of s n) (emission_writes s n) (emission_means s n) due)) task asks first))
 
--- where the source failed
+-- if the source failed
 cut_inputs : (asked : CommandLine) (input taken left octets own : List ℕ) (s : Setting) (n : ℕ) → input ≡ taken ++ left → (h : CutTask asked taken octets)
     → AsksFor asked h.text (Emit own s n) → CutHandled (emission_of s n).accepts h.back octets →
     InputsOf asked input ReadFault octets

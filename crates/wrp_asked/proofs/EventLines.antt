@@ -31,11 +31,11 @@ whole_line s n tick o truth names =
     line_whole (name_at s.cfg n ∷ decimal tick ∷ output_words o (pos (path_of s.cfg n)) truth)
     (at_word s.cfg names n, (decimal_word tick, output_are o (pos (path_of s.cfg n)) truth))
 
--- the line of what a node put out in an event that left this world
+-- the line of what a node put out in an event that led to this world
 abbrev pub line_at : Setting → WorldAt → ℕ → Output → List ℕ
 line_at s w n o = output_line s.cfg n (w.node n).ticks o (Some (w.clock n).off)
 
--- those of the outputs of a step that have one
+-- the lines of the outputs of a step that have one
 abbrev pub lines_by : (Output → Bool) → Setting → WorldAt → NodeStepAt → List ℕ
 lines_by has_line s w step = flat_map (λ o. if has_line o then line_at s w step.node o else []) step.outs
 
@@ -58,7 +58,7 @@ steps_lines P has_line s w [] names are = tt
 steps_lines P has_line s w (step ∷ steps) names are =
     outs_lines P has_line s w step.node step.outs (flat_map (lines_by has_line s w) steps) names are.0 (steps_lines P has_line s w steps names are.1)
 
--- where nothing was put out, nothing is written
+-- if nothing was put out, nothing is written
 pub no_lines : (has_line : Output → Bool) (s : Setting) (w : WorldAt) (steps : List NodeStepAt) → AllByRecursion (λ (step : NodeStepAt). step.outs ≡ []) steps
     → flat_map (lines_by has_line s w) steps ≡ []
 no_lines has_line s w [] h = refl

@@ -1,5 +1,5 @@
--- What the records of an audit write, whole or the inputs of a node, is what is written of their events, and what stands behind it,
--- by the status.
+-- What the records of an audit write, whole or the inputs of a node, is what is written of their events, and what
+-- follows it, by the status.
 use Rattle.std.proofs.Common.{◌≡◌, inl, inr, ◌∙◌, refl, ap, sym, ℕ, ◌+◌, List, [], ◌∷◌, ◌++◌, append-nil, append_assoc, length, map}
 use Rattle.std.specs.List.{concat}
 use Rattle.wrp_course.specs.Run.{Happened, world_after}
@@ -24,7 +24,7 @@ use Rattle.wrp_records.proofs.Unique.{never_barred}
 
 -- What is written
 
--- of the events this is written, and this behind all of them
+-- of the events this is written, and this after all of them
 pub record Writes : Type 0 where
   pub text : List Happened → List ℕ
   pub counts : List Happened → List ℕ
@@ -62,7 +62,7 @@ emission_means s n = record {
 
 -- Records
 
--- the first records of an input say these events; this is written of them and behind them
+-- the first records of an input say these events; this is written of them and after them
 pub record AreTold (input : List ℕ) (s : Setting) (w : Writes) (status : Status) (octets : List ℕ) : Type 0 where
   pub events : List Happened
   pub front : List (List ℕ)
@@ -73,7 +73,7 @@ pub record AreTold (input : List ℕ) (s : Setting) (w : Writes) (status : Statu
   pub ends : EndsEvents status s front behind (w.counts events) last
   pub is : octets ≡ w.text events ++ last
 
--- what the first records write, and what stands behind it
+-- what the first records write, and what follows it
 in_front : (front text last octets : List ℕ) → octets ≡ front ++ last → front ≡ text → octets ≡ text ++ last
 in_front front text last octets is same = is ∙ ap (λ (l : List ℕ). l ++ last) same
 
@@ -169,9 +169,9 @@ records_due input TooLarge octets s M w means (inr off) = absurd (means.never _ 
 records_due input BadCalib octets s M w means h = absurd (means.never _ _ _ h.broken)
 records_due input _ octets s M w means h = absurd h
 
--- Where the source failed
+-- If the source failed
 
--- the network text of the whole input is the one that came, and the whole records among what was taken are told
+-- the network text of the whole input is the one that came, and the whole records among what was taken are reported
 pub cut_due : (input taken left octets : List ℕ) (s : Setting) (M : LineMeaning) (w : Writes) (front back text : List ℕ) → MeansEvents s M w
     → input ≡ taken ++ left → taken ≡ front ++ back → Divides front text → CutHandled M.accepts back octets →
     (network_text input ≡ text) × AreTold input s w ReadFault octets

@@ -90,7 +90,7 @@ at_each s P f (h ∷ before) run = (f h before run, at_each s P f before (run_be
 
 -- Dropped frames
 
--- what is written of an event, where some outputs have a line
+-- what is written of an event, if some outputs have a line
 abbrev pub writes : (Output → Bool) → Writing
 writes has_line s before h = flat_map (lines_by has_line s (world_after s (h ∷ before))) (steps_at s before h)
 

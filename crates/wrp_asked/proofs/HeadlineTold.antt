@@ -1,4 +1,4 @@
--- What an audit wrote are the lines of the nodes' steps, and what stands behind them, by its status.
+-- What an audit wrote is the lines of the nodes' steps, and what follows them, by its status.
 use Rattle.std.proofs.Common.{◌≡◌, ◌⊎◌, inl, inr, refl, sym, subst, ℕ, Option, None, Some, IfSome, List, [], ◌++◌}
 use Rattle.std.specs.Io.KnownBytes.{Appends}
 use Rattle.wrp_course.specs.Setting.{Setting}
@@ -26,7 +26,7 @@ use Rattle.wrp_asked.proofs.WordLemmas.{lacks_none, one_command}
 abbrev pub IsDue : CommandLine → List ℕ → List LinkCall → Status → List ℕ → Type 0
 IsDue asked input calls status due = ReachesNone input status due ⊎ StepsOf asked input status due
 
--- where an audit is asked for, what holds of every task holds if it does of an audit
+-- if an audit is asked for, what holds of every task holds if it does of an audit
 only_audit : (asked : CommandLine) (text : List ℕ) (P : Task → Type 0) (Q : Type 0) → IsAuditing asked
     → ((s : Setting) → AsksFor asked text (Audit s) → P (Audit s) → Q) → (task : Task) → AsksFor asked text task → P task → Q
 only_audit asked text P Q audits f (Audit s) asks h = f s asks h
@@ -62,7 +62,7 @@ task_first one asked input octets task audits asks first =
     inr (only_audit asked (network_text input) (λ t. StandsFirst (meaning_at t) (behind_separator (lines_of input)) octets) (StepsOf asked input OutOfMemory octets) audits
     (λ s own due. steps_of asked input OutOfMemory octets s own (stand_first input octets s (audit_of s) (audit_writes s) (audit_means one s) due)) task asks first)
 
--- where the source failed
+-- if the source failed
 cut_steps : OneAudit → (asked : CommandLine) (input taken left octets : List ℕ) (s : Setting) → input ≡ taken ++ left → (h : CutTask asked taken octets)
     → AsksFor asked h.text (Audit s) → CutHandled (audit_of s).accepts h.back octets →
     StepsOf asked input ReadFault octets

@@ -7,7 +7,7 @@ use Rattle.wrp_bound_laws.specs.Hops.{SiblingsAgree, TracksAddUp, TracksFollow}
 use Rattle.wrp_asked.specs.HopByHop.{HopByHop, HopsAreKept}
 use Rattle.wrp_asked.proofs.TracksHold.{RunsNear, runs_before, true_run}
 
--- the laws that this stands on
+-- the laws that this rests on
 pub record HopLaws : Type 0 where
   pub follows : TracksFollow
   pub siblings : SiblingsAgree

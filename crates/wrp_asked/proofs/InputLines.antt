@@ -78,7 +78,7 @@ input_word site x sound = joined_word (texts_of site x) (texts_are site x sound)
 
 -- Texts in front of others
 
--- where something holds of each line behind a text, it holds of the text's lines too
+-- if something holds of each line after a text, it holds of the text's lines too
 abbrev pub Passes : (List ℕ → Type 0) → List ℕ → Type 0
 Passes P octets = (rest : List ℕ) → AllByRecursion P (lines_of rest) → AllByRecursion P (lines_of (octets ++ rest))
 

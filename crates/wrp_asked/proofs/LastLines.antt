@@ -1,5 +1,5 @@
--- The lines that end an output, behind the lines of events or alone: counters, sums, and the line that names what is refused. Where
--- a property has each such line, it has all lines that end an output.
+-- The lines that end an output, after the lines of events or alone: counters, sums, and the line that names what is
+-- refused. If a property holds of each such line, it holds of all lines that end an output.
 use Rattle.std.proofs.Common.{◌≡◌, ◌∙◌, refl, ap, sym, subst, append-nil, ℕ, ℤ, pos, ◌+◌, ◌==◌, Bool, true, false, if◌then◌else◌, List, [], ◌∷◌, ◌++◌, length, codes, flat_map}
 use Rattle.std.specs.Fmt.{decimal, signed_decimal}
 use Rattle.std.specs.List.{AllByRecursion, concat}
@@ -219,9 +219,9 @@ sums_told P all s net events (n ∷ nodes) =
     sum_in_front P all (name_at s.cfg n) node.ticks (count_of offs) (worst_of offs) (pos (path_of s.cfg n)) (state_of (node_setting_of s n) node)
     (flat_map (node_sum s events) nodes) (at_word s.cfg net.accepted.names n) (sums_told P all s net events nodes)
 
--- What is due behind events, or alone
+-- What is expected after events, or alone
 
--- where no record was reached
+-- if no record was reached
 pub none_tells : (P : List ℕ → Type 0) → HasLastLines P → (input : List ℕ) (status : Status) (octets : List ℕ) → ReachesNone input status octets
     → AllByRecursion P (lines_of octets)
 none_tells P all input BadNetwork octets none = refused P all (network_text input) octets none.1
@@ -230,7 +230,7 @@ none_tells P all input ReadFault octets none = no_line P octets none
 none_tells P all input OutOfMemory octets none = no_line P octets none
 none_tells P all input status octets none = absurd none
 
--- behind the counters that are due, where the property has those
+-- after the expected counters, if the property holds of them
 pub last_tells : (P : List ℕ → Type 0) → HasLastLines P → (status : Status) (s : Setting) (front behind : List (List ℕ)) (counts last : List ℕ)
     → AllByRecursion P (lines_of counts) → EndsEvents status s front behind counts last → AllByRecursion P (lines_of last)
 last_tells P all Done s front behind counts last told ends = told_as P last counts ends.1 told

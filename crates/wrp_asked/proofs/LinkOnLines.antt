@@ -1,4 +1,4 @@
--- The lines of an event: where one says that a link is on, so does its output.
+-- The lines of an event: if one says that a link is on, so does its output.
 use Rattle.std.proofs.Common.{◌≡◌, ◌∙◌, refl, ap, sym, subst, ℕ, ℤ, pos, List, [], ◌∷◌, ◌++◌, flat_map, Option, Some, Bool, arith, codes}
 use Rattle.std.specs.List.{AllByRecursion}
 use Rattle.std.specs.Fmt.{decimal}
@@ -25,11 +25,11 @@ use Rattle.wrp_asked.proofs.EventLines.{line_at, lines_by, next_of, steps_lines}
 use Rattle.wrp_lines.proofs.LineWords.{at_word, behind_two}
 use Rattle.wrp_records.proofs.WordLemmas.{SameWord, decimal_word, first_word, head_of, rest_of}
 
--- the line that says that a link is on, behind the first two words
+-- the line that says that a link is on, after the first two words
 abbrev OnLine : List ℕ → List ℕ
 OnLine port = codes "link" ++ 32 ∷ (port ++ 32 ∷ (codes "link-on" ++ 10 ∷ []))
 
--- what says it behind two words
+-- what says it after two words
 record SaysOn (o : Output) (port : List ℕ) : Type 0 where
   number : ℕ
   is : o ≡ Report (Link number (In LinkOn))

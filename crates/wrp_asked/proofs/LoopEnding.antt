@@ -1,4 +1,4 @@
--- How a run over a link ends, told of the words and the whole input.
+-- How a run over a link ends, said of the words and the whole input.
 use Rattle.std.proofs.Common.{◌≡◌, ◌∙◌, ◌⊎◌, inl, inr, arith, true, Bool, ℕ, Option, None, Some, IfSome, List, [], ◌++◌, append-nil, ap, map, option_map, refl, subst, sym}
 use Rattle.std.specs.Io.KnownBytes.{Consumes, IsAtEnd}
 use Rattle.wrp_base.specs.declared.fault.ConfFault.{ConfFault}
@@ -25,7 +25,7 @@ use Rattle.wrp_asked.proofs.Asking.{TookNetwork, lines_told, networked_of, recor
 
 -- A link that is not called
 
--- a link that has told nothing, and has not failed
+-- a link that has reported nothing, and has not failed
 abbrev still : Passage (List LinkCall)
 still = record { before = None; now = None; faults = 0; faults_now = 0 }
 
@@ -43,7 +43,7 @@ unlinked asked source sink status link ends sound = record {
   sound = λ other. sound;
 }
 
--- a network that is refused is told by no other status than these
+-- no other status than these reports a network that is refused
 pub refuses_other : (fault : ConfFault) (given other : Status) (before now : Option (List ℕ)) → RefusesNetwork fault given before now
     → (OutOfMemory ≡ other → ⊥) → (BadNetwork ≡ other → ⊥) → (WriteFault ≡ other → ⊥) → given ≡ other → ⊥
 refuses_other (Fault code place) given other before now (inl memory) a b c is = a (sym memory.0 ∙ is)
@@ -79,9 +79,9 @@ pub refused_unlinked : (fault : ConfFault) (given : Status) (before now : Option
 refused_unlinked fault given before now link how sound =
     record { failed = λ is. absurd (refuses_other fault given LinkFault before now how memory_link network_link write_link is); sound = λ other. sound }
 
--- What is told of all records
+-- What is said of all records
 
--- what holds of all record lines, where the input ended, in the whole input
+-- what holds of all record lines, if the input ended, in the whole input
 both_told : (P : List (List ℕ) → Type 0) (Q : List ℕ → Type 0) (asked : CommandLine) (first : Option (List ℕ)) (source : Passage (List ℕ)) (text given : List ℕ)
     (r : ReaderAt) (ended : Bool) (task : Task)
     → TookNetwork asked first source.before text r task → Consumes source.before source.now given → (ended ≡ true → IsAtEnd source.now) → ended ≡ true
@@ -93,7 +93,7 @@ both_told P Q asked (Some input) source text given r ended task net taken at_end
     (λ more on. subst (λ (l : List ℕ). P (lines_of l)) (sym (ap (λ m. (r.rest ++ given) ++ m) (on is) ∙ append-nil (r.rest ++ given))) here) in
     means input has.0 has.1
 
--- all lines are those of a scenario, and the network ran so behind them
+-- all lines are the lines of a scenario, and the network ran so after them
 abbrev RanAt : Setting → ℕ → List LinkCall → Status → List ℕ → List (List ℕ) → Type 0
 RanAt s seed calls status text lines = Handles (SimAccepts s) lines [] × RanDue s seed (map content_of lines) calls status text
 
@@ -108,7 +108,7 @@ broken_at : (s : Setting) (seed : ℕ) (calls : List LinkCall) (status : Status)
 broken_at s seed calls status text lines handled broken =
     record { written = []; last = text; handled = record { sizes = handled.sizes; count = handled.count; accepted = handled.accepted }; broken = broken; is = refl }
 
--- what is due then
+-- what is expected then
 answer_at : (asked : CommandLine) (input : List ℕ) (s : Setting) (seed : ℕ) (calls : List LinkCall) (status : Status) (text : List ℕ)
     → AsksFor asked (network_text input) (Loop s seed)
     → RanAt s seed calls status text (behind_separator (lines_of input))
@@ -128,7 +128,7 @@ first_at asked input s seed calls text asks (handled, inl none) = inl (none.1, n
 first_at asked input s seed calls text asks (handled, inr broken) =
     inr (inr (inr (s, seed, asks, broken_at s seed calls OutOfMemory text (behind_separator (lines_of input)) handled broken)))
 
--- all lines are those of a scenario, and the sink failed behind them
+-- all lines are the lines of a scenario, and the sink failed after them
 abbrev WroteAt : Setting → ℕ → List LinkCall → List ℕ → List (List ℕ) → Type 0
 WroteAt s seed calls text lines = Handles (SimAccepts s) lines [] × RanSo s seed (map content_of lines) calls WriteFault text
 
@@ -140,7 +140,7 @@ part_at asked input s seed calls text asks (handled, inr so) = (so.1, so.2, so.3
 
 -- How it ends
 
--- no call leaves what a link tells
+-- without a call, what a link reports stays the same
 kept : (link : Passage (List LinkCall)) (calls : List LinkCall) → link.now ≡ option_map (λ told. told ++ calls) link.before → calls ≡ []
     → link.now ≡ link.before
 kept link calls called none =

@@ -1,4 +1,4 @@
--- What a run over a link wrote are the lines of its events, and what stands behind them, by its status.
+-- What a run over a link wrote is the lines of its events, and what follows them, by its status.
 use Rattle.std.proofs.Common.{◌≡◌, inl, inr, ◌∙◌, refl, ap, ap₂, sym, subst, ℕ, Option, None, Some, IfSome, List, [], ◌++◌, append-nil, map}
 use Rattle.std.proofs.lemmas.List.Folds.{concat-append}
 use Rattle.std.specs.List.{concat}
@@ -38,7 +38,7 @@ use Rattle.wrp_asked.proofs.ToldApart.{all_text, came_text, count_lines, counts_
 use Rattle.wrp_asked.proofs.ToldWhole.{all_whole, audit_whole, counts_whole}
 use Rattle.wrp_asked.proofs.WordLemmas.{lacks_none, one_command}
 
--- where a loop is asked for, what holds of every task holds if it does of a loop
+-- if a loop is asked for, what holds of every task holds if it does of a loop
 only_loop : (asked : CommandLine) (text : List ℕ) (seed : ℕ) (P : Task → Type 0) (Q : Type 0) → IsLooping asked seed
     → ((s : Setting) (own : ℕ) → AsksFor asked text (Loop s own) → P (Loop s own) → Q) → (task : Task) →
     AsksFor asked text task → P task → Q
@@ -47,7 +47,7 @@ only_loop asked text seed P Q looping f task asks h = let bad : requests.Loop se
 
 -- Records
 
--- behind lines of a scenario nothing is written but what stands at the end
+-- after lines of a scenario nothing is written but what comes at the end
 only_last : (written last octets : List ℕ) → written ≡ [] → octets ≡ written ++ last → octets ≡ last
 only_last written last octets none is = is ∙ ap (λ (l : List ℕ). l ++ last) none
 
@@ -100,7 +100,7 @@ scene_due asked input calls _ octets s seed asks none h = absurd h
 
 -- A loop
 
--- what was written of its events, and what stands behind
+-- what was written of its events, and what follows
 behind_events : (s : Setting) (last : Going) (written end_text octets text : List ℕ) → written ≡ [] → octets ≡ written ++ end_text
     → end_text ≡ loop_text s (events_at (place last)) ++ text
     → octets ≡ came_lines s (events_at (place last)) ++ text
@@ -157,7 +157,7 @@ overrun asked input octets calls s seed asks h =
       is = behind_events s loop.last h.written h.last octets (large_line event_limit) h.handled.accepted.2 h.is h.broken.1;
     }
 
--- the calls of the loop, and those behind them
+-- the calls of the loop, and the calls after them
 first_calls : (x : Plan) (calls : List LinkCall) (last : Going) → IsShort x calls last
     → (first : List LinkCall) × (later : List LinkCall) × (calls ≡ first ++ later) × Loops x first last
 first_calls x calls (On l) h = (h.before, h.made, h.all, h.loops)
@@ -237,7 +237,7 @@ looped_due asked input calls Done octets h = inr (inr (inr (over asked input oct
 looped_due asked input calls TooLarge octets h = inr (inr (inr (overrun asked input octets calls h.0 h.1 h.2 h.3)))
 looped_due asked input calls _ octets h = absurd h.3
 
--- What is due
+-- What is expected
 
 task_due : (asked : CommandLine) (seed : ℕ) (input : List ℕ) (status : Status) (octets : List ℕ) (task : Task) → IsLooping asked seed
     → AsksFor asked (network_text input) task →
@@ -260,7 +260,7 @@ first_due asked seed input octets task looping asks first =
     (IsLoopDue asked input [] OutOfMemory octets) looping
     (λ s own a first. scene_first asked input octets s first) task asks first
 
--- where the source failed, nothing was written
+-- if the source failed, nothing was written
 cut_due : (asked : CommandLine) (seed : ℕ) (input taken octets : List ℕ) → IsLooping asked seed → CutTask asked taken octets
     → IsLoopDue asked input [] ReadFault octets
 cut_due asked seed input taken octets looping cut =

@@ -36,7 +36,7 @@ use Rattle.wrp_world.specs.EventHolds.{LinksHoldInRuns, TracksHoldInRuns}
 
 -- What comes between the events of the simulator
 
--- the numbers of what came between fit, but for that of a frame
+-- the numbers of what came between fit, except the number of a frame
 abbrev FitBetween : List Turn → Type 0
 FitBetween [] = Unit {0}
 FitBetween (Between h ∷ turns) = FitsSave h.event × FitBetween turns

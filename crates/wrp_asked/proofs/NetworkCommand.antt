@@ -1,4 +1,4 @@
--- What is shown of each task on a network, for all that is told of it above.
+-- What is shown of each task on a network, for all that is said of it above.
 use Rattle.std.proofs.Common.{◌≡◌, ℕ, None, Some, Ok, List}
 use Rattle.wrp_audit.specs.AuditLaws.{OneAudit}
 use Rattle.wrp_config.specs.Names.{node_named}
@@ -37,8 +37,9 @@ abbrev pub meaning_with : Task → List LinkCall → LineMeaning
 meaning_with (Loop s seed) calls = loop_of s seed calls
 meaning_with task calls = meaning_at task
 
--- It is asked of an accepted network, which has the node that is asked for. A text and a command have one such task, but for the
--- unused room of names, which decides nothing, and for record lines one status and one text are due. No end is a wrong calibration.
+-- It is asked of an accepted network, which has the node that is asked for. A text and a command have one such task,
+-- except for the unused room of names, which decides nothing; and for record lines one status and one text are
+-- expected. No end is a wrong calibration.
 pub record IsNetworkTask (task : Task) : Type 0 where
   pub accepted : (text : List ℕ) → (task_row task).IsIn text → IsAccepted text
   pub named :

@@ -19,7 +19,7 @@ use Rattle.wrp_records.specs.Reached.{Reached}
 use Rattle.wrp_records.proofs.NextLines.{next_line, cut_line}
 use Rattle.wrp_records.proofs.Reaching.{Coming, comes, whole_before, next_some, goes_on_with, lines_behind, concat-snoc}
 
--- the lines are those of a network text so far
+-- the lines are the lines of a network text so far
 pub record NetworkLines (lines : List (List ℕ)) (text : List ℕ) : Type 0 where
   pub none : AllByRecursion (λ line. is_separator line ≡ false) lines
   pub is : text ≡ concat lines
@@ -28,7 +28,7 @@ pub record NetworkLines (lines : List (List ℕ)) (text : List ℕ) : Type 0 whe
 abbrev pub Anything : List (List ℕ) → Type 0
 Anything lines = Unit {0}
 
--- the lines so far are those of the network text
+-- the lines so far are the lines of the network text
 pub record Networked (r : ReaderAt) (left rest : Option (List ℕ)) (text : List ℕ) : Type 0 where
   pub number : ℕ
   pub so_far : Reached NetworkLines Anything [] r left rest None None text number
@@ -226,7 +226,7 @@ too_long_cut line r left rest waiting number so_far cut never some long more goe
     ∙ ap (λ n. length so_far.text + n) (length-append (line ++ on.0) _ ∙ ap (λ n. n + length (before_separator on.1)) (length-append line on.0)) in
     omega arith
 
--- where the source failed
+-- if the source failed
 pub undivided : (line : List ℕ) (r : ReaderAt) (left rest : Option (List ℕ)) (waiting : List ℕ) (number : ℕ)
     → (so_far : Coming NetworkLines Anything [] line r left rest None None waiting number)
     → IsCut line r → r.ended ≡ false → length so_far.text ≤ network_limit → (length so_far.text + length line ≤ network_limit) ⊎ StartsWith (codes "---\r") line

@@ -1,5 +1,5 @@
--- No line that an emission prints begins as that of an estimate in TRACK does: the lines of inputs are one word, and the third
--- word of each other line begins with a digit, a capital or an `a`.
+-- No line that an emission prints begins as the line of an estimate in TRACK does: the lines of inputs are one word,
+-- and the third word of each other line begins with a digit, a capital or an `a`.
 use Rattle.std.proofs.Common.{◌≡◌, ◌⊎◌, inl, inr, refl, sym, ap, ◌∙◌, subst, append_assoc, ℕ, zero, suc, ◌+◌, ◌/◌, ◌%◌, ◌<◌, ◌≤◌, ◌==◌, nat_lt, Bool, true, false, if◌then◌else◌, List, [], ◌∷◌, ◌++◌, codes, arith}
 use Rattle.std.specs.Prelude.{nat_le}
 use Rattle.std.specs.Fmt.{decimal, digit_glyph, digits, digits_onto, signed_decimal}
@@ -119,7 +119,7 @@ no_track_last = record {
       fourth name (codes "sum") (decimal ticks) (decimal tracks) (decimal worst ∷ signed_decimal bound ∷ servo_word state ∷ []) h refl (decimal_low ticks);
 }
 
--- What is due
+-- What is expected
 
 sound_in : ReadingIsAccepted → (text : List ℕ) (s : Setting) → IsSettingOf text s → IsSoundDatabase s.db
 sound_in accepted text s setting = subst (λ (t : Setting). IsSoundDatabase t.db) (sym setting.is) (accepted text setting.net setting.reads).database

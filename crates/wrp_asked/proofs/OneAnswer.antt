@@ -1,4 +1,4 @@
--- For what is asked and an input one status and one text are due, and no others.
+-- For what is asked and an input one status and one text are expected, and no others.
 use Rattle.std.proofs.Common.{true, false, ◌≡◌, ◌⊎◌, inl, inr, ℕ, ◌<◌, ◌≤◌, Option, None, Some, IfSome, option_map, Ok, Err, List, [], ◌++◌, length, refl, sym, ap, ap₂, ◌∙◌, subst, arith}
 use Rattle.std.specs.Io.KnownBytes.{Appends}
 use Rattle.std.proofs.lemmas.List.{append_cancel_left}
@@ -55,7 +55,7 @@ IsBadNetwork asked text s o = (s ≡ BadNetwork) × IsNetworked asked × (length
 abbrev IsNoNode : CommandLine → List ℕ → Status → List ℕ → Type 0
 IsNoNode asked text s o = (s ≡ Usage) × AsksNone asked text × (o ≡ asked.usage)
 
--- what is due for the records: by themselves, or by the calls of a link too
+-- what is expected for the records: by themselves, or by the calls of a link too
 abbrev TaskCase : CommandLine → List ℕ → Status → List ℕ → Type 0
 TaskCase asked input s o =
     (task : Task) × AsksFor asked (network_text input) task × RecordsAnswer (meaning_at task) (behind_separator (lines_of input)) s o
@@ -85,7 +85,7 @@ cases_of asked input calls BadNetwork o p = elim p [ inl bad ↦ inl (inr (inr (
 cases_of asked input calls TooLarge o p = elim p [ inl long ↦ inl (inr (inl (refl, long.0, long.1, long.2))) | inr due ↦ due_cases asked input calls TooLarge o due ]
 cases_of asked input calls s o p = due_cases asked input calls s o p
 
--- what is due for the records, of a task whose link answered these calls
+-- what is expected for the records, of a task whose link answered these calls
 record TaskWith (asked : CommandLine) (input : List ℕ) (calls : List LinkCall) (s : Status) (o : List ℕ) : Type 0 where
   task : Task
   asks : AsksFor asked (network_text input) task
@@ -187,7 +187,7 @@ not_both asked input calls s o alone (inr (inr (inl p))) is = alone_unnetworked 
 not_both asked input calls s o alone (inr (inr (inr (inl p)))) is = alone_unnetworked asked alone is (of_node asked p.1.name p.1.asks)
 not_both asked input calls s o alone (inr (inr (inr (inr p)))) is = alone_unnetworked asked alone is (is_networked asked input calls s o p)
 
--- for words, an input and calls one status and one text are due
+-- for words, an input and calls one status and one text are expected
 pub one_answer : OneLaws → (asked : CommandLine) (input : List ℕ) (calls : List LinkCall) (s t : Status) (o u : List ℕ) → Answer asked input calls s o
     → Answer asked input calls t u → AreOne s t o u
 one_answer laws asked input calls s t o u p q =
@@ -202,7 +202,7 @@ one_answer laws asked input calls s t o u p q =
       ]
     ]
 
--- What is due for no call is due for any, but of a command that stands alone
+-- What is expected for no call is expected for any, except for a command that stands alone
 
 uncalled_case : (asked : CommandLine) (input : List ℕ) (calls : List LinkCall) (s : Status) (o : List ℕ) → Cases asked input [] s o
     → Cases asked input calls s o
@@ -214,7 +214,7 @@ uncalled_case asked input calls s o (inr (inr (inr (inr (inl p))))) = inr (inr (
 uncalled_case asked input calls s o (inr (inr (inr (inr (inr p))))) =
     absurd (told_calls p.0 p.1 (behind_separator (lines_of input)) s o p.3)
 
--- one status and one text are due for some calls, and for none
+-- one status and one text are expected for some calls, and for none
 one_uncalled : OneLaws → (asked : CommandLine) (input : List ℕ) (calls : List LinkCall) (s t : Status) (o u : List ℕ) → Answer asked input calls s o
     → Answer asked input [] t u → AreOne s t o u
 one_uncalled laws asked input calls s t o u p q =
@@ -236,7 +236,7 @@ answered LinkFault other = absurd (other refl)
 answered OutOfMemory other = absurd (other refl)
 answered _ other = refl
 
--- how a run ends gives what it answered, where the input is told
+-- how a run ends gives what it answered, if the input is reported
 abbrev pub Given : Run → Status → List ℕ → Type 0
 Given run status input = (octets : List ℕ) × (calls : List LinkCall) × Wrote run octets × Called run calls × Answer run.asked input calls status octets
 
@@ -269,19 +269,19 @@ given_of run ReadFault input told ends is = absurd (cc)
 given_of run WriteFault input told ends is = absurd (cc)
 given_of run OutOfMemory input told ends is = absurd (cc)
 
--- what is due where the source tells the input
+-- what is expected if the source reports the input
 abbrev pub DueIs : Run → Status → List LinkCall → Status → List ℕ → Type 0
 DueIs run answered calls status octets =
     IfSome run.source.before (λ input. Answer run.asked input calls status octets → (answered ≡ status) × Appends run.sink.before run.sink.now octets)
 
--- calls that a link tells are those that were made
+-- the calls that a link reports are the calls that were made
 own_calls : (run : Run) (calls made : List LinkCall) → Called run made → IsToldOf run.link calls → (calls ≡ made) ⊎ (calls ≡ [])
 own_calls run calls made called (inl none) = inr none
 own_calls run calls made called (inr (told, before, now)) =
     let all : Some (told ++ calls) ≡ Some (told ++ made) = sym now ∙ called ∙ ap (option_map (λ (own : List LinkCall). own ++ made)) before in
     inl (append_cancel_left told calls made (same_Some (told ++ calls) (told ++ made) all))
 
--- where the source tells the input, what is due is what was answered and written
+-- if the source reports the input, what is expected is what was answered and written
 pub told_one : OneLaws → (run : Run) (answered status : Status) (octets : List ℕ) (calls : List LinkCall) → Ends run answered → is_answer answered ≡ true
     → IsToldOf run.link calls → DueIs run answered calls status octets
 told_one laws run answered status octets calls ends is tells = go run.source.before refl

@@ -29,9 +29,9 @@ use Rattle.wrp_servo.specs.Told.{ToldLast}
 use Rattle.wrp_scene.specs.Scenario.{SceneAt, new_scene}
 use Rattle.wrp_trace.specs.LineSetting.{has_port, line_setting_in}
 
--- What is due by the records, and by the calls
+-- What is expected by the records, and by the calls
 
--- what is due by the records alone is so whatever calls are told
+-- what is expected by the records alone is expected whatever calls are reported
 pub scene_records : (s : Setting) (seed : ℕ) (calls : List LinkCall) (lines : List (List ℕ)) (status : Status) (octets : List ℕ)
     → RecordsAnswer (scenario_of s) lines status octets → RecordsAnswer (loop_of s seed calls) lines status octets
 scene_records s seed calls = due_so (scenario_of s) (loop_of s seed calls) (record {
@@ -64,7 +64,7 @@ counts_one s v w same =
     sym
     (λ i. flat_map (λ n. flat_map (λ port. if has_port (line_setting_in s n) port then port_counts (name_at s.cfg n) port (same n i port) else []) port_numbers) (nodes_of s))
 
--- two loops that the same lines and calls tell
+-- two loops that the same lines and calls give
 record Both (s : Setting) (first second : Ending) (a b : LoopAt) : Type 0 where
   ending : first ≡ second
   text : loop_text s (events_at a) ≡ loop_text s (events_at b)

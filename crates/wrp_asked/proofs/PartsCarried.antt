@@ -1,4 +1,4 @@
--- The events of an audit, and those that a simulation makes, carry the parts of the aim.
+-- The events of an audit, and the events that a simulation makes, carry the parts of the aim.
 use Rattle.std.proofs.Common.{true}
 use Rattle.wrp_network_text.specs.SameAnswer.{ReadingIsAccepted}
 use Rattle.wrp_sim.specs.Keeps.{SimRunsAreRuns}
@@ -17,7 +17,7 @@ events_carry_parts can accepted links tracks hops asked input s events came =
     let runs : RunsNear s events = audit_runs can accepted asked input s events came in
     parts_of (λ o. true) links s events runs.run (tracks_hold tracks (λ o. true) s events runs) (hops_hold hops s events runs)
 
--- of a simulation those of some kinds
+-- of a simulation the outputs of some kinds have a line
 pub made_events_carry_parts : SimRunsAreRuns → ReadingIsAccepted → LinksHoldInRuns → TracksHoldInRuns → HopLaws → MadeEventsCarryParts
 made_events_carry_parts runs accepted links tracks hops asked input s events made =
     let near : RunsNear s events = simulation_runs runs accepted asked input s events made in

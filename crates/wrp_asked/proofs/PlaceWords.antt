@@ -1,4 +1,4 @@
--- The place of a network file that a refusal tells is one word: the names of tables and keys are, and so are numbers.
+-- The place in a network file that a refusal names is one word: names of tables and keys are words, and so are numbers.
 use Rattle.std.proofs.Common.{◌≡◌, inl, inr, refl, sym, subst, ℕ, ◌+◌, Bool, true, false, if◌then◌else◌, find, List, [], ◌∷◌, ◌++◌, map, take, Option, None, Some, option_map, codes}
 use Rattle.std.specs.Prelude.{Err, option_and_then}
 use Rattle.std.specs.Fmt.{decimal, signed_decimal}
@@ -78,7 +78,7 @@ among : (f : ℕ → Data → Option PlaceAt) (n : ℕ) (ds : List Data) → ((m
 among f n [] h = tt
 among f n (d ∷ ds) h = one_of (f n d) (first_among f (n + 1) ds) (h n d) (among f (n + 1) ds h)
 
--- in each of some tables, by how many stand before it
+-- in each of some tables, by how many come before it
 in_tables : (f : ℕ → Members → Option PlaceAt) (ds : List Data) → ((m : ℕ) (table : Members) → IsWordly (f m table))
     → IsWordly (first_among (λ m d. on_table (f m) d) 0 ds)
 in_tables f ds h = among (λ m d. on_table (f m) d) 0 ds (λ m d. on_some (f m) (as_table d) (h m))

@@ -58,7 +58,7 @@ itself line h = h line [] (sym (append-nil line))
 begins_in_front : HoldsInFront BeginsWithin
 begins_in_front line more h front rest e = h front (rest ++ more) (ap (λ (l : List ℕ). l ++ more) e ∙ append_assoc front rest more)
 
--- what stands behind NODE TICK track in such a line
+-- what follows NODE TICK track in such a line
 abbrev behind_track : (est bound off : List ℕ) → List ℕ
 behind_track est bound off = 32 ∷ (est ++ 32 ∷ (bound ++ 32 ∷ (codes "true" ++ 32 ∷ (off ++ 10 ∷ []))))
 
@@ -71,7 +71,7 @@ untracked line none front rest e node tick est bound off a b c d f is =
 untold : (octets : List ℕ) → AllByRecursion TellsNoTrack (lines_of octets) → AllByRecursion BeginsWithin (lines_of octets)
 untold octets told = all_weaker TellsNoTrack BeginsWithin untracked (lines_of octets) told
 
--- behind the LF of a whole line nothing stands
+-- after the LF of a whole line there is nothing
 other_octet : (c : ℕ) → c ≡ 10 → (c == 10) ≡ false → ⊥
 other_octet c e f = let g : (10 == 10) ≡ false = subst (λ (x : ℕ). (x == 10) ≡ false) e f in cc
 
@@ -82,7 +82,7 @@ ends_there [] (c ∷ d ∷ b) rest plain e = absurd (cc)
 ends_there (c ∷ a) [] rest plain e = let same : c ≡ 10 = cc in absurd (other_octet c same plain.0)
 ends_there (c ∷ a) (d ∷ b) rest plain e = let tail : a ++ 10 ∷ [] ≡ (b ++ 10 ∷ []) ++ rest = cc in ends_there a b rest plain.1 tail
 
--- a line that tells the truth where it is a track line
+-- a line that is true if it is a track line
 true_within : (s : Setting) (w : WorldAt) (line : List ℕ) → IsWhole line → IsTrueLine s w line → BeginsWithin line
 true_within s w line whole is_true front rest e node tick est bound off a b c d f is =
     let words : List (List ℕ) = node ∷ tick ∷ codes "track" ∷ est ∷ bound ∷ codes "true" ∷ off ∷ [] in
@@ -156,7 +156,7 @@ came_pass write s (h ∷ before) names each are =
     pass_both BeginsWithin (came_lines s before) (marked_line s.cfg h.event ++ event_lines s before h) (came_pass write s before names each.1 are.1)
     (pass_both BeginsWithin (marked_line s.cfg h.event) (event_lines s before h) (marked_pass s h.event names each.0) (event_pass write (λ o. true) s before h names are.0))
 
--- What is due
+-- What is expected
 
 all_itself : (octets : List ℕ) → AllByRecursion BeginsWithin (lines_of octets) → TracksAreWithinBounds octets
 all_itself octets told = all_weaker BeginsWithin IsWithinItsBound itself (lines_of octets) told
@@ -164,7 +164,7 @@ all_itself octets told = all_weaker BeginsWithin IsWithinItsBound itself (lines_
 pub untold_within : (octets : List ℕ) → AllByRecursion TellsNoTrack (lines_of octets) → TracksAreWithinBounds octets
 untold_within octets told = all_itself octets (untold octets told)
 
--- also where the sink failed
+-- also if the sink failed
 prints_within : (IsDue : Status → List ℕ → Type 0) → ((status : Status) (due : List ℕ) → IsDue status due → AllByRecursion BeginsWithin (lines_of due))
     → (status : Status) (octets : List ℕ) → Prints IsDue status octets → TracksAreWithinBounds octets
 prints_within IsDue f WriteFault octets (status, due, count, is, so) =

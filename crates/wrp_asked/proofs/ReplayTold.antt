@@ -182,8 +182,8 @@ first_told : (input octets : List ℕ) (site : LineSetting) → StandsFirst (mea
 first_told input octets site (inl first) = firsts input octets site first
 first_told input octets site (inr off) = absurd off.broken
 
--- where the source failed: the network text of the whole input is the one that came, and the whole records among what was taken are
--- told
+-- if the source failed: the network text of the whole input is the one that came, and the whole records among what was
+-- taken are reported
 cut_told : (input taken left octets : List ℕ) (site : LineSetting) (front back text : List ℕ) → input ≡ taken ++ left → taken ≡ front ++ back
     → Divides front text → CutHandled (Accepts site) back octets →
     (network_text input ≡ text) × Tells input site ReadFault octets
@@ -215,7 +215,7 @@ cut_told input taken left octets site front back text all goes divides cut =
 abbrev pub IsOutputDue : CommandLine → List ℕ → List LinkCall → Status → List ℕ → Type 0
 IsOutputDue asked input calls status due = LacksNode asked input status due ⊎ (ReachesNone input status due ⊎ OutputsOf asked input status due)
 
--- where a replay is asked for, what holds of every task holds if it does of a replay
+-- if a replay is asked for, what holds of every task holds if it does of a replay
 only_replay : (asked : CommandLine) (name text : List ℕ) (P : Task → Type 0) (Q : Type 0) → IsReplay asked name
     → ((own : List ℕ) (site : LineSetting) → AsksFor asked text (Replay own site) → P (Replay own site) → Q) → (task : Task) → AsksFor asked text task → P task
     → Q

@@ -1,4 +1,4 @@
--- The lines of an event are those of its outputs, one by one, so the line of each report is among them.
+-- The lines of an event are the lines of its outputs, one by one, so the line of each report is among them.
 use Rattle.std.proofs.Common.{◌≡◌, ◌∙◌, refl, ap, sym, subst, ℕ, Bool, true, false, if◌then◌else◌, List, [], ◌∷◌, ◌++◌, append_assoc, flat_map, Some, arith}
 use Rattle.std.specs.List.{AllByRecursion, Contains}
 use Rattle.std.proofs.lemmas.List.Elements.{Contains-append_left, Contains-append_right}

@@ -1,4 +1,4 @@
--- What a simulation wrote are the lines of the events that its rules make, and what stands behind them, by its status.
+-- What a simulation wrote is the lines of the events that its rules make, and what follows them, by its status.
 use Rattle.std.proofs.Common.{◌≡◌, ◌⊎◌, inl, inr, ◌∙◌, refl, ap, sym, subst, ℕ, ◌+◌, Option, None, Some, IfSome, List, [], ◌++◌, append-nil, length, map}
 use Rattle.std.specs.Io.KnownBytes.{Appends}
 use Rattle.wrp_course.specs.Setting.{Setting}
@@ -28,7 +28,7 @@ use Rattle.wrp_asked.proofs.WordLemmas.{lacks_none, one_command}
 abbrev pub IsRunDue : CommandLine → List ℕ → List LinkCall → Status → List ℕ → Type 0
 IsRunDue asked input calls status due = ReachesNone input status due ⊎ (LacksScenario asked input status due ⊎ RunOf asked input status due)
 
--- where a simulation is asked for, what holds of every task holds if it does of a simulation
+-- if a simulation is asked for, what holds of every task holds if it does of a simulation
 only_simulation : (asked : CommandLine) (text : List ℕ) (seed : ℕ) (P : Task → Type 0) (Q : Type 0) → IsSimulation asked seed
     → ((s : Setting) (own : ℕ) → AsksFor asked text (Simulate s own) → P (Simulate s own) → Q) →
     (task : Task) → AsksFor asked text task → P task → Q
@@ -40,7 +40,7 @@ unlooped seed own e = cc
 
 -- Records
 
--- behind lines of a scenario nothing is written but what stands at the end
+-- after lines of a scenario nothing is written but what comes at the end
 only_last : (written last octets : List ℕ) → written ≡ [] → octets ≡ written ++ last → octets ≡ last
 only_last written last octets none is = is ∙ ap (λ (l : List ℕ). l ++ last) none
 
@@ -147,7 +147,7 @@ first_due asked seed input octets task simulates asks first =
     (IsRunDue asked input [] OutOfMemory octets) simulates
     (λ s own a due. stand_first asked input octets s own a due) task asks first
 
--- where the source failed, no event was made
+-- if the source failed, no event was made
 cut_due : (asked : CommandLine) (seed : ℕ) (input taken octets : List ℕ) → IsSimulation asked seed → CutTask asked taken octets
     → IsRunDue asked input [] ReadFault octets
 cut_due asked seed input taken octets simulates h =

@@ -1,4 +1,4 @@
--- What holds of each line of a text holds of each line of its first octets, where it holds of what a line begins with.
+-- What holds of each line of a text holds of each line of its first octets, if it holds of what a line begins with.
 use Rattle.std.proofs.Common.{ℕ, zero, suc, ◌==◌, Bool, true, false, if◌then◌else◌, List, [], ◌∷◌, ◌++◌, take}
 use Rattle.std.specs.List.{AllByRecursion}
 use Rattle.wrp_records.specs.Lines.{lines_of, onto}
@@ -7,7 +7,7 @@ use Rattle.wrp_records.specs.Lines.{lines_of, onto}
 abbrev pub HoldsInFront : (List ℕ → Type 0) → Type 0
 HoldsInFront P = (line rest : List ℕ) → P (line ++ rest) → P line
 
--- one holds of the first line, and the other of those behind it
+-- one holds of the first line, and the other of the lines after it
 abbrev FirstAndOthers : (List ℕ → Type 0) → (List ℕ → Type 0) → List (List ℕ) → Type 0
 FirstAndOthers Q P [] = Unit {0}
 FirstAndOthers Q P (line ∷ lines) = Q line × AllByRecursion P lines

@@ -1,4 +1,5 @@
--- The lines that a run over a link wrote are told apart: those of its events, and those that an audit of these writes.
+-- The lines that a run over a link wrote can be told apart: the lines of its events, and the lines that an audit of
+-- these writes.
 use Rattle.std.proofs.Common.{◌≡◌, ◌∙◌, refl, ap, ap₂, sym, ℕ, ◌==◌, Bool, true, false, if◌then◌else◌, append_assoc, append-nil, List, [], ◌∷◌, ◌++◌, map, flat_map}
 use Rattle.std.proofs.lemmas.List.Folds.{concat-append}
 use Rattle.std.specs.List.{AllByRecursion, concat}
@@ -61,7 +62,7 @@ audit_text s (h ∷ before) =
 
 -- Counters
 
--- a line for a counter, where it is not 0
+-- a line for a counter, if it is not 0
 abbrev pub count_if : List ℕ → ℕ → Reason → Bool → ℕ → List (List ℕ)
 count_if name port reason none value = if none then [] else count_line_of name port (number_of reason) value ∷ []
 
@@ -75,7 +76,7 @@ port_if name has port counters = if has then port_lines name port counters else 
 abbrev pub node_lines : Setting → WorldAt → ℕ → List (List ℕ)
 node_lines s w n = flat_map (λ port. port_if (name_at s.cfg n) (has_port (line_setting_in s n) port) port ((w.node n).counters port)) port_numbers
 
--- those of all nodes
+-- the lines of all nodes
 abbrev pub count_lines : Setting → WorldAt → List (List ℕ)
 count_lines s w = flat_map (node_lines s w) (nodes_of s)
 

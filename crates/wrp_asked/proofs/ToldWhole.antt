@@ -1,4 +1,5 @@
--- The lines that a run over a link wrote, and those that an audit of its events writes, are whole lines: a reader cuts them there.
+-- The lines that a run over a link wrote, and the lines that an audit of its events writes, are whole: a reader cuts
+-- them there.
 use Rattle.std.proofs.Common.{◌≡◌, refl, ℕ, ◌==◌, ◌&&◌, not, nat_lt, Bool, true, false, if◌then◌else◌, List, [], ◌∷◌, ◌++◌, map, Ok, Err, Some}
 use Rattle.std.specs.Fmt.{decimal}
 use Rattle.std.specs.List.{AllByRecursion, list_all}

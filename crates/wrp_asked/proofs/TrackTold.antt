@@ -1,4 +1,4 @@
--- The lines of an event: where one tells of TRACK, so does its output, and what it tells is true.
+-- The lines of an event: if one reports TRACK, so does its output, and what it reports is true.
 use Rattle.std.proofs.Common.{◌≡◌, ◌∙◌, refl, ap, sym, subst, ℕ, ℤ, pos, List, [], ◌∷◌, ◌++◌, flat_map, Some, Bool, arith, codes}
 use Rattle.std.specs.List.{AllByRecursion}
 use Rattle.std.specs.Fmt.{decimal, signed_decimal}
@@ -21,14 +21,14 @@ use Rattle.wrp_asked.proofs.EventLines.{line_at, lines_by, steps_lines}
 use Rattle.wrp_lines.proofs.LineWords.{at_word, behind_two}
 use Rattle.wrp_records.proofs.WordLemmas.{SameWord, decimal_word, first_word, head_of, rest_of, signed_word}
 
--- what tells of TRACK in a line, behind the first two words
+-- what reports TRACK in a line, after the first two words
 abbrev TrueLine : (off : List ℕ) → List ℕ
 TrueLine off = codes "true" ++ 32 ∷ (off ++ 10 ∷ [])
 
 abbrev TrackLine : (est bound off : List ℕ) → List ℕ
 TrackLine est bound off = codes "track" ++ 32 ∷ (est ++ 32 ∷ (bound ++ 32 ∷ TrueLine off))
 
--- what says it behind two words
+-- what says it after two words
 record SaysTrack (o : Output) (most truth : ℤ) (est bound off : List ℕ) : Type 0 where
   estimate : ℤ
   is : o ≡ Report (Track estimate)

@@ -1,4 +1,4 @@
--- What is told of TRACK is true in every audit and in every simulation, by the law of every run.
+-- What is reported of TRACK is true in every audit and in every simulation, by the law of every run.
 use Rattle.std.proofs.Common.{◌<◌, ◌^◌, ℕ, Bool, List, [], ◌∷◌, length, arith}
 use Rattle.std.specs.List.{AllByRecursion}
 use Rattle.wrp_network_text.specs.SameAnswer.{ReadingIsAccepted}

@@ -16,7 +16,7 @@ one_command asked a b p q = let same : OnNetwork a ≡ OnNetwork b = one_request
 pub one_alone : (asked : CommandLine) (a b : Alone) → IsAlone asked a → IsAlone asked b → a ≡ b
 one_alone asked a b p q = let same : StandAlone a ≡ StandAlone b = one_request asked (StandAlone a) (StandAlone b) p q in cc
 
--- one that stands alone is on no network
+-- a command that stands alone is on no network
 pub alone_unnetworked : (asked : CommandLine) (alone : Alone) → IsAlone asked alone → IsNetworked asked → ⊥
 alone_unnetworked asked alone is (command, on) =
     let bad : StandAlone alone ≡ OnNetwork command = one_request asked (StandAlone alone) (OnNetwork command) is on in

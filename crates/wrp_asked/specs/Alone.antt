@@ -15,8 +15,8 @@ use Rattle.wrp_commands.specs.declared.alone.Alone.TheVariants.{Migrate, Inspect
 use Rattle.wrp_commands.specs.Request.{CommandLine, StandAlone}
 use Rattle.wrp_asked.specs.AloneAims.{BoundsSo, CalibratesSo, MigratesSo, SynchronisesSo}
 
--- What a command is: what the octets of its input mean; the statuses with which it may answer, but for faults of the outside and
--- lack of memory; and its aim, of an input, the status and what was written.
+-- What a command is: what the octets of its input mean; the statuses with which it may answer, except for faults of the
+-- outside and lack of memory; and its aim, for an input, the status and what was written.
 pub record AloneRow : Type 1 where
   pub meaning : Meaning
   pub statuses : List Status

@@ -25,20 +25,20 @@ pub record KeepsDatabase (input octets : List ℕ) : Type 0 where
   pub written : IsReadingOf octets (Ok db)
   pub kept : (answer : Result Database ConfFault) → IsReadingOf octets answer → IsKept db answer
 
--- so it is where a migration read its input to the end
+-- so it is if a migration read its input to the end
 abbrev pub MigratesSo : List ℕ → Status → List ℕ → Type 0
 MigratesSo input Done octets = KeepsDatabase input octets
 MigratesSo input status octets = Unit {0}
 
--- where records of every kind came and some true delays keep the stated errors, each printed interval holds its true
--- value, or a strand may be too short; no record is refused, and no conflict is told
+-- if records of every kind came and some true delays keep the stated errors, each printed interval holds its true
+-- value, or a strand may be too short; no record is refused, and no conflict is reported
 abbrev pub CalibratesSo : List ℕ → Status → List ℕ → Type 0
 CalibratesSo input status octets = (true : Delays) → SayTruly input true → TellsSo status octets true
 
--- after each record each printed state is the one that looking back finds; an end whose last printed state is up was handed a
--- message since it was enabled, which its peer sent at most the timeout's ticks and a life ago; it requires the same, and each
--- required bit holds at the end and in the message; and both ends require the same now where the peer's own message was not
--- set since
+-- after each record each printed state is the one that looking back finds; an end whose last printed state is up was
+-- handed a message since it was enabled, which its peer sent at most the timeout's ticks and a life ago; it requires
+-- the same, and each required bit holds at the end and in the message; and both ends require the same now if the peer's
+-- own message was not set since
 abbrev pub SynchronisesSo : List ℕ → Status → List ℕ → Type 0
 SynchronisesSo input Done octets = ShowsBy Done input octets
 SynchronisesSo input BadTrace octets = ShowsBy BadTrace input octets
@@ -58,9 +58,9 @@ TellsTruly input =
     → (start : PlainStart) (events : List PlainEvent) → IsPlainRun first lines start events
     → AreTrue start.set start.off events × AreSteered start.set start.off events
 
--- so it is whatever a plain servo is told; each report, as it is printed, is within its printed bound of the printed true
--- offset; and of the lines of reports and steps each report, moved with the printed steps, stays within its bound up to the
--- next tick; where a write failed the last line may be cut, and nothing is said of what was written
+-- so it is whatever a plain servo is given; each report, as it is printed, is within its printed bound of the printed
+-- true offset; and among the lines of reports and steps each report, moved with the printed steps, stays within its
+-- bound up to the next tick; if a write failed the last line may be cut, and nothing is said of what was written
 abbrev pub BoundsSo : List ℕ → Status → List ℕ → Type 0
 BoundsSo input Done octets = AllAreWithin octets × WritesSo input Done octets × TellsTruly input
 BoundsSo input BadTrace octets = AllAreWithin octets × WritesSo input BadTrace octets × TellsTruly input

@@ -1,7 +1,7 @@
--- What is due for what a command line asks, the octets of the input and the calls of a link that the run made, as they were
--- answered: one status and the octets that are written (this project's profile). The first refusal decides: no command, the size of
--- the network text, the network, the node's name, and then the records, one by one. A command that stands alone has its own records
--- and refusals.
+-- What is expected for what a command line asks, the octets of the input and the calls of a link that the run made, as
+-- they were answered: one status and the octets that are written (this project's profile). The first refusal decides,
+-- in this order: no command, the size of the network text, the network, the node's name, and then the records, one by
+-- one. A command that stands alone has its own records and refusals.
 use Rattle.std.specs.Prelude.{◌≡◌, ◌⊎◌, ℕ, ◌<◌, ◌≤◌, None, Some, Ok, List, [], ◌++◌, length, take}
 use Rattle.wrp_config.specs.declared.network.Network.{Network}
 use Rattle.wrp_config.specs.Names.{node_named}
@@ -43,44 +43,44 @@ pub record AsksNone (asked : CommandLine) (text : List ℕ) : Type 0 where
   pub reads : IsReadingOf text (Ok net)
   pub none : node_named net.cfg name ≡ None
 
--- what is due where a task on a network is asked for, and its node is found, by the records alone: no link is
--- called
+-- what is expected, by the records alone, if a task on a network is asked for and its node is found: no link
+-- is called
 abbrev pub TaskAnswer : CommandLine → List ℕ → List LinkCall → Status → List ℕ → Type 0
 TaskAnswer asked input calls status octets =
     (task : Task) × AsksFor asked (network_text input) task
     × RecordsAnswer (meaning_at task) (behind_separator (lines_of input)) status octets
     × (calls ≡ [])
 
--- behind the records of a loop, which are all those of a scenario: the calls of its link tell what is due
+-- after the records of a loop, which are all the records of a scenario: its link's calls decide what is expected
 abbrev pub LoopDue : Setting → ℕ → List (List ℕ) → List LinkCall → Status → List ℕ → Type 0
 LoopDue s seed lines calls Done octets = IsWholly (loop_of s seed calls) lines octets
 LoopDue s seed lines calls TooLarge octets = BreaksOff (loop_of s seed calls) TooLarge lines octets
 LoopDue s seed lines calls _ octets = ⊥
 
--- what is due where a run over a link is asked for, and its records are those of a scenario
+-- what is expected if a run over a link is asked for, and its records are the records of a scenario
 abbrev pub LoopAnswer : CommandLine → List ℕ → List LinkCall → Status → List ℕ → Type 0
 LoopAnswer asked input calls status octets =
     (s : Setting) × (seed : ℕ) × AsksFor asked (network_text input) (Loop s seed)
     × LoopDue s seed (behind_separator (lines_of input)) calls status octets
 
--- what stands there where it breaks off with a status
+-- what is written if it breaks off with a status
 abbrev pub LoopBroken : CommandLine → List ℕ → List LinkCall → Status → List ℕ → Type 0
 LoopBroken asked input calls status octets =
     (s : Setting) × (seed : ℕ) × AsksFor asked (network_text input) (Loop s seed)
     × BreaksOff (loop_of s seed calls) status (behind_separator (lines_of input)) octets
 
--- what is due where a command that stands alone is asked for
+-- what is expected if a command that stands alone is asked for
 abbrev pub AloneAnswer : CommandLine → List ℕ → List LinkCall → Status → List ℕ → Type 0
 AloneAnswer asked input calls status octets =
     (alone : Alone) × IsAlone asked alone × (alone_meaning alone).answers input calls status octets
 
--- what is due where no refusal stands in front of the records
+-- what is expected if nothing is refused before the records
 abbrev pub RecordsDue : CommandLine → List ℕ → List LinkCall → Status → List ℕ → Type 0
 RecordsDue asked input calls status octets =
     TaskAnswer asked input calls status octets
     ⊎ (AloneAnswer asked input calls status octets ⊎ LoopAnswer asked input calls status octets)
 
--- what is due for what is asked, an input and the calls of a link
+-- what is expected for what is asked, an input and the calls of a link
 abbrev pub Answer : CommandLine → List ℕ → List LinkCall → Status → List ℕ → Type 0
 Answer asked input calls Usage octets =
     ((IsCommand asked → ⊥) ⊎ AsksNone asked (network_text input)) × (octets ≡ asked.usage)
@@ -95,7 +95,7 @@ Answer asked input calls TooLarge octets =
     ⊎ RecordsDue asked input calls TooLarge octets
 Answer asked input calls status octets = RecordsDue asked input calls status octets
 
--- the lines of the first records of an input, or of the first events of a simulation or of a loop; none, where
+-- the lines of the first records of an input, or of the first events of a simulation or of a loop; none, if
 -- the records were not reached
 abbrev pub FirstAnswer : CommandLine → List ℕ → List LinkCall → List ℕ → Type 0
 FirstAnswer asked input calls octets =
@@ -111,7 +111,7 @@ PartAnswer asked input calls octets =
     (due : List ℕ) × (count : ℕ) × (octets ≡ take count due)
     × (((status : Status) × Answer asked input calls status due) ⊎ FirstAnswer asked input calls due)
 
--- the `---` line came, and of the octets behind it the lines that are whole are handled
+-- the `---` line came, and of the octets after it the whole lines are handled
 pub record CutTask (asked : CommandLine) (taken octets : List ℕ) : Type 0 where
   pub front : List ℕ
   pub back : List ℕ
@@ -122,7 +122,7 @@ pub record CutTask (asked : CommandLine) (taken octets : List ℕ) : Type 0 wher
   pub asks : AsksFor asked text task
   pub handled : CutHandled (meaning_at task).accepts back octets
 
--- what stands where the source failed behind these octets: no refusal stands in them
+-- what is written if the source failed after these octets: it has no refusal
 abbrev pub CutAnswer : CommandLine → List ℕ → List ℕ → Type 0
 CutAnswer asked taken octets =
     (IsNetworked asked × ((IsUndivided taken × (octets ≡ [])) ⊎ CutTask asked taken octets))

@@ -18,7 +18,7 @@ OneAnswer =
 abbrev pub PrintsWithinBounds : Run → Type 0
 PrintsWithinBounds run = (octets : List ℕ) × Wrote run octets × TracksAreWithinBounds octets
 
--- so it is, whatever the status is, where no replay and no command that stands alone is asked for
+-- so it is, whatever the status is, if neither a replay nor a command that stands alone is asked for
 abbrev pub RunsPrintWithinBounds : Type 0
 RunsPrintWithinBounds =
     (run : Run) (status : Status) → Ends run status → ReportsOffsets run.asked.request → HasPlainUsage run.asked →

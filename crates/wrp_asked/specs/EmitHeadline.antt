@@ -1,6 +1,6 @@
--- The aim of the project of what an audit wrote that was asked for the inputs of a node, for each status: it printed exactly these
--- (`PrintsTheInputs`), and no `track` line (`TellsNoTrack`); and the events behind them carry the other parts as those of an audit
--- do, of which each step is printed. This project's profile.
+-- The aim of the project for what an audit wrote that was asked for the inputs of a node, for each status. It printed
+-- exactly these (`PrintsTheInputs`), and no `track` line (`TellsNoTrack`); and the events that they come from carry the
+-- other parts, as the events of an audit do that prints each step. This project's profile.
 use Rattle.std.specs.Prelude.{◌≡◌, ◌⊎◌, ℕ, List, [], ◌∷◌, ◌++◌, codes}
 use Rattle.std.specs.List.{AllByRecursion}
 use Rattle.wrp_course.specs.Run.{Happened}
@@ -18,7 +18,7 @@ use Rattle.wrp_asked.specs.Tasks.{Emit, AsksFor}
 
 -- The first part
 
--- the inputs that events which came give the node that is asked for, and what stands behind them: no counters
+-- the inputs that events which came give the node that is asked for, and what follows them: no counters
 pub record InputsOf (asked : CommandLine) (input : List ℕ) (status : Status) (octets : List ℕ) : Type 0 where
   pub name : List ℕ
   pub setting : Setting
@@ -30,7 +30,7 @@ pub record InputsOf (asked : CommandLine) (input : List ℕ) (status : Status) (
   pub ends : EndsEvents status setting came.front came.behind [] last
   pub is : octets ≡ given_lines setting node events ++ last
 
--- where the network has no node of the name that is asked for
+-- if the network has no node of the name that is asked for
 abbrev pub LacksNode : CommandLine → List ℕ → Status → List ℕ → Type 0
 LacksNode asked input Usage octets = AsksNone asked (network_text input) × (octets ≡ asked.usage)
 LacksNode asked input _ octets = ⊥
@@ -44,12 +44,12 @@ PrintsTheInputs asked input status octets =
 
 -- No track line
 
--- the line does not begin as that of an estimate in TRACK does: NODE TICK track
+-- the line does not begin as the line of an estimate in TRACK does: NODE TICK track
 abbrev pub TellsNoTrack : List ℕ → Type 0
 TellsNoTrack line =
     (node tick rest : List ℕ) → IsWord node → IsWord tick → line ≡ node ++ 32 ∷ (tick ++ 32 ∷ (codes "track" ++ rest)) → ⊥
 
--- no line that is written where a command line is refused begins so
+-- no line that is written when a command line is refused begins so
 abbrev pub HasPlainUsage : CommandLine → Type 0
 HasPlainUsage asked = AllByRecursion TellsNoTrack (lines_of asked.usage)
 

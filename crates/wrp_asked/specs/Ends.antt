@@ -34,12 +34,12 @@ Wrote run octets = Appends run.sink.before run.sink.now octets
 abbrev pub Took : Run → List ℕ → Type 0
 Took run octets = Consumes run.source.before run.source.now octets
 
--- the run added these calls, as they were answered, to those that the link tells
+-- the run added these calls, as they were answered, to the calls that the link reports
 abbrev pub Called : Run → List LinkCall → Type 0
 Called run calls = Grew run.link.before run.link.now calls
 
--- these calls decide what is due: those that the run added, where the link tells them; or none, since what is due without a call
--- is due whatever was called
+-- these calls decide what is expected: the calls that the run added, if the link reports them; or none, since what is
+-- expected without a call is expected whatever was called
 abbrev pub IsToldOf : Passage (List LinkCall) → List LinkCall → Type 0
 IsToldOf link calls =
     (calls ≡ [])
@@ -53,13 +53,13 @@ AsksAlone asked status = (alone : Alone) × IsAlone asked alone × MayAnswer alo
 abbrev pub AsksSome : CommandLine → Status → Type 0
 AsksSome asked status = IsNetworked asked ⊎ AsksAlone asked status
 
--- a command is asked for, and what is due for this status was written
+-- a command is asked for, and what is expected for this status was written
 abbrev pub Answered : Run → Status → Type 0
 Answered run status =
     AsksSome run.asked status × (octets : List ℕ) × (calls : List LinkCall) × Wrote run octets × Called run calls
     × IfSome run.source.before (λ input. Answer run.asked input calls status octets)
 
--- behind a network text the line of a refused record ends these octets
+-- after a network text the line of a refused record ends these octets
 pub record EndsRefused (asked : CommandLine) (front : List ℕ) (refusal : Refusal) : Type 0 where
   pub task : Task
   pub octets : List ℕ
@@ -80,7 +80,7 @@ EndsRefusedAs asked front Broken =
     EndsRefused asked front refusals.Broken ⊎ EndsRefusedAlone asked front Broken
 EndsRefusedAs asked front status = EndsRefusedAlone asked front status
 
--- of an input the octets up to the end of a refused record were taken, and at most one piece behind them
+-- of an input the octets up to the end of a refused record were taken, and at most one piece after them
 pub record TakesPiece (run : Run) (status : Status) (input : List ℕ) : Type 0 where
   pub front : List ℕ
   pub past : List ℕ
@@ -96,7 +96,7 @@ AsksEvents asked = IsAuditing asked ⊎ ((name : List ℕ) × IsEmission asked n
 
 -- how a run ends
 abbrev pub Ends : Run → Status → Type 0
--- the input was read to its end, and what is due is written
+-- the input was read to its end, and what is expected is written
 Ends run Done = Answered run Done × IsAtEnd run.source.now
 -- the usage line is all that is written: no command is asked for, or one that needs a node whose name no node of the network has
 Ends run Usage =
@@ -105,43 +105,42 @@ Ends run Usage =
     ⊎ (((name : List ℕ) × IsOfNode run.asked name)
     × IfSome run.source.before (λ input. AsksNone run.asked (network_text input))))
     × Called run []
--- a record is refused: at most one piece behind its line was taken
+-- a record is refused: at most one piece after its line was taken
 Ends run BadTrace =
     Answered run BadTrace × IfSome run.source.before (TakesPiece run BadTrace)
 -- a record breaks a premise: the same, and only of a command whose records have premises
 Ends run Broken =
     Answered run Broken × IfSome run.source.before (TakesPiece run Broken)
     × (AsksEvents run.asked ⊎ AsksAlone run.asked Broken)
--- a capture is refused: the same, and only where one is read
+-- a capture is refused: the same, and only if one is read
 Ends run BadCapture =
     Answered run BadCapture × IfSome run.source.before (TakesPiece run BadCapture)
     × AsksAlone run.asked BadCapture
 -- the records of a calibration as a whole give no answer: the input was read to its end
 Ends run BadCalib =
     Answered run BadCalib × AsksAlone run.asked BadCalib × IsAtEnd run.source.now
--- the source failed: the lines of the whole records among what was taken stand, and no refusal
--- stands in it
+-- the source failed: the lines of the whole records among what was taken are written, and no refusal
 Ends run ReadFault =
     Failed run.source × (taken : List ℕ) × (octets : List ℕ)
     × Took run taken × Wrote run octets × CutAnswer run.asked taken octets × Called run []
--- the sink failed: the first octets of what is due stand
+-- the sink failed: the first octets of what is expected are written
 Ends run WriteFault =
     Failed run.sink × (octets : List ℕ) × (calls : List LinkCall) × Wrote run octets × Called run calls
     × IfSome run.source.before (λ input. PartAnswer run.asked input calls octets)
--- there was no memory: the lines of the first records stand
+-- memory ran out: the lines of the first records are written
 Ends run OutOfMemory =
     (octets : List ℕ) × (calls : List LinkCall) × Wrote run octets × Called run calls
     × IfSome run.source.before (λ input. FirstAnswer run.asked input calls octets)
 -- the link failed, which only a loop calls: the input was read to its end, and the lines of all events before the one
--- whose call failed stand
+-- whose call failed are written
 Ends run LinkFault =
     Failed run.link × ((seed : ℕ) × IsLooping run.asked seed) × IsAtEnd run.source.now
     × (octets : List ℕ) × (calls : List LinkCall) × Wrote run octets × Called run calls
     × IfSome run.source.before (λ input. LoopBroken run.asked input calls LinkFault octets)
--- the network or a size is refused, and its line is written behind those of the records before it
+-- the network or a size is refused, and its line is written after the lines of the records before it
 Ends run status = Answered run status
 
--- so it ends, over this source and this sink, where it calls no link
+-- so it ends, over this source and this sink, if it calls no link
 abbrev pub EndsUnlinked : CommandLine → Passage (List ℕ) → Passage (List ℕ) → Status → Type 0
 EndsUnlinked asked source sink status =
     (link : Passage (List LinkCall)) → link.now ≡ link.before

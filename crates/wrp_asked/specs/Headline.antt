@@ -1,8 +1,8 @@
--- The aim of the project, part by part, of what an audit wrote, for each status: it printed exactly the nodes' steps
+-- The aim of the project, part by part, for what an audit wrote, for each status: it printed exactly the nodes' steps
 -- (`PrintsTheSteps`); no port was in WR_LINK_ON unless its peer had passed the required steps of that same handshake
--- (`LinkOnIsEarned`); every track line's true offset is at most its printed bound (`TracksAreWithin`, in TrackLines.antt);
--- a malformed or foreign frame changed only a counter (`DropsOnlyCount`); and each node in TRACK was within its hop of its parent, with
--- what follows of that (`HopByHop`, in HopByHop.antt). This project's profile.
+-- (`LinkOnIsEarned`); every track line's true offset is at most its printed bound (`TracksAreWithin`, in
+-- TrackLines.antt); a malformed or foreign frame changed only a counter (`DropsOnlyCount`); and each node in TRACK was
+-- within its hop of its parent, with what follows from that (`HopByHop`, in HopByHop.antt). This project's profile.
 use Rattle.std.specs.Prelude.{◌≡◌, ◌⊎◌, ℕ, ◌+◌, ◌<◌, ◌≤◌, Some, List, [], ◌∷◌, ◌++◌, length, map, take, codes}
 use Rattle.std.specs.Fmt.{decimal}
 use Rattle.std.specs.List.{AllByRecursion}
@@ -54,12 +54,12 @@ pub record Came (asked : CommandLine) (input : List ℕ) (s : Setting) (events :
 
 -- The first part
 
--- a line stands next, and is so
+-- there is a next line, and it is so
 abbrev pub NextIs : List (List ℕ) → (List ℕ → Type 0) → Type 0
 NextIs behind IsSo = (line : List ℕ) × (rest : List (List ℕ)) × (behind ≡ line ∷ rest) × IsSo line
 
--- what stands behind what is written of the events, by the status: the counters, and no record is left; the line that names the
--- next record as refused, or as too large; nothing, where the source failed or there was no memory
+-- what follows what is written of the events, by the status: the counters, and no record is left; the line that names
+-- the next record as refused, or as too large; nothing, if the source failed or memory ran out
 abbrev pub EndsEvents : Status → Setting → (front behind : List (List ℕ)) → (counts last : List ℕ) → Type 0
 EndsEvents Done s front behind counts last = (behind ≡ []) × (last ≡ counts)
 EndsEvents BadTrace s front behind counts last =
@@ -72,7 +72,7 @@ EndsEvents ReadFault s front behind counts last = last ≡ []
 EndsEvents OutOfMemory s front behind counts last = last ≡ []
 EndsEvents _ s front behind counts last = ⊥
 
--- the lines of the nodes' steps in events that came, and what stands behind them
+-- the lines of the nodes' steps in events that came, and what follows them
 pub record StepsOf (asked : CommandLine) (input : List ℕ) (status : Status) (octets : List ℕ) : Type 0 where
   pub setting : Setting
   pub events : List Happened
@@ -81,8 +81,8 @@ pub record StepsOf (asked : CommandLine) (input : List ℕ) (status : Status) (o
   pub ends : EndsEvents status setting came.front came.behind (all_counts setting (world_after setting events)) last
   pub is : octets ≡ audit_lines setting events ++ last
 
--- where no record was reached, by the status: the line that names the network text as refused, or as too large; nothing, where
--- the source failed or there was no memory
+-- if no record was reached, by the status: the line that names the network text as refused, or as too large; nothing,
+-- if the source failed or memory ran out
 abbrev pub ReachesNone : List ℕ → Status → List ℕ → Type 0
 ReachesNone input BadNetwork octets =
     (length (network_text input) ≤ network_limit) × IsRefusedBy (network_text input) octets
@@ -91,7 +91,7 @@ ReachesNone input ReadFault octets = octets ≡ []
 ReachesNone input OutOfMemory octets = octets ≡ []
 ReachesNone input _ octets = ⊥
 
--- all that is due for the status; where the sink failed, the first octets of what is due for another
+-- all that is expected for the status; if the sink failed, the first octets of what is expected for another
 abbrev pub Prints : (Status → List ℕ → Type 0) → Status → List ℕ → Type 0
 Prints IsDue WriteFault octets =
     (status : Status) × (due : List ℕ) × (count : ℕ) × (octets ≡ take count due) × IsDue status due
@@ -104,21 +104,21 @@ PrintsTheSteps asked input status octets =
 
 -- The second part
 
--- a line that is written of an event which left this world: where it says NODE TICK link PORT link-on, a node of that name has a
--- port of that number, which is in WR_LINK_ON and has earned it
+-- a line that is written of an event which led to this world: if it says NODE TICK link PORT link-on, a node of that
+-- name has a port of that number, which is in WR_LINK_ON and has earned it
 abbrev pub IsEarnedLine : Setting → WorldAt → List ℕ → Type 0
 IsEarnedLine s w line =
     (node tick port : List ℕ) → IsWord node → IsWord tick → IsWord port →
     line ≡ line_of (node ∷ tick ∷ codes "link" ∷ port ∷ codes "link-on" ∷ []) →
     (n : ℕ) × (p : ℕ) × (name_at s.cfg n ≡ node) × (decimal p ≡ port) × IsOn s w n p
 
--- after an event each port in WR_LINK_ON has earned it, and so has each of which a line that is written of the event says
--- link-on, and it is there
+-- after an event each port in WR_LINK_ON has earned it; and each port of which a line that is written of the event says
+-- link-on has earned it and is there
 pub record IsEarnedAt (write : Writing) (s : Setting) (before : List Happened) (h : Happened) : Type 0 where
   pub ports : AllHaveEarned s (world_after s (h ∷ before))
   pub lines : AllByRecursion (IsEarnedLine s (world_after s (h ∷ before))) (lines_of (write s before h))
 
--- after each event, each port in WR_LINK_ON has earned it, and so has each of which the event's lines say link-on
+-- after each event, each port in WR_LINK_ON has earned it, and so has each port of which the event's lines say link-on
 abbrev pub LinkOnIsEarned : Writing → Setting → List Happened → Type 0
 LinkOnIsEarned write s events = AtEachEvent (IsEarnedAt write s) events
 

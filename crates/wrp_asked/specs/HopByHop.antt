@@ -1,6 +1,7 @@
--- The aim's part on hops: after each event a node in TRACK is within its hop of its parent, nodes in TRACK below one parent are within
--- the sum of their hops of each other, and where all nodes on the way to the grandmaster are in TRACK, the offset from true time is
--- within the sum of the hops, with no motion of HOLDOVER (this project's profile). All in tau.
+-- The aim's part on hops: after each event a node in TRACK is within its hop of its parent, nodes in TRACK below one
+-- parent are within the sum of their hops of each other, and if all nodes on the way to the grandmaster are in TRACK,
+-- the offset from true time is within the sum of the hops, with no motion of HOLDOVER (this project's profile). All
+-- are in tau.
 use Rattle.std.specs.Prelude.{◌≡◌, ◌+◌, ◌≤◌, ℕ, unsigned_abs, List, ◌∷◌, Some}
 use Rattle.wrp_base.specs.Closeness.{IsWithin}
 use Rattle.wrp_network.specs.declared.network.LinkCfg.{LinkCfg}
@@ -11,9 +12,9 @@ use Rattle.wrp_course.specs.Setting.{Setting}
 use Rattle.wrp_bound_laws.specs.Hops.{FollowsWithin, IsTracking, TracksUp, hops_on}
 use Rattle.wrp_asked.specs.EventLines.{AtEachEvent}
 
--- after these events: a node in TRACK is within its hop of its parent, which is up, and is the grandmaster, or in TRACK or HOLDOVER;
--- two nodes in TRACK below one parent are within the sum of their hops of each other; and where a node and all on its way to the
--- grandmaster are in TRACK, its offset is within the sum of the hops on that way
+-- after these events: a node in TRACK is within its hop of its parent, which is up, and is the grandmaster, or in TRACK
+-- or HOLDOVER; two nodes in TRACK below one parent are within the sum of their hops of each other; and if a node and
+-- all on its way to the grandmaster are in TRACK, its offset is within the sum of the hops on that way
 pub record HopsAreKept (s : Setting) (events : List Happened) : Type 0 where
   pub parent : (n : ℕ) (link : LinkCfg) → link_above s.cfg n ≡ Some link → IsTracking s events n → FollowsWithin s events n link
   pub siblings :

@@ -18,7 +18,7 @@ abbrev pub before_separator : List (List ℕ) → List ℕ
 before_separator [] = []
 before_separator (line ∷ lines) = if is_separator line then [] else line ++ before_separator lines
 
--- the lines behind it
+-- the lines after it
 abbrev pub behind_separator : List (List ℕ) → List (List ℕ)
 behind_separator [] = []
 behind_separator (line ∷ lines) = if is_separator line then lines else behind_separator lines
@@ -31,8 +31,8 @@ network_text input = before_separator (lines_of input)
 abbrev pub network_limit : ℕ
 network_limit = 262_144
 
--- however the input goes on behind these octets, its network text is this, and its record lines stand
--- behind them
+-- however the input goes on after these octets, its network text is this, and its record lines come
+-- after them
 abbrev pub Divides : List ℕ → List ℕ → Type 0
 Divides front text =
     (more : List ℕ) → (network_text (front ++ more) ≡ text)

@@ -1,9 +1,10 @@
--- The aim of the project, part by part, of what a run over a link wrote, for each status: it printed the events that came, each
--- behind `= `, and the lines of the nodes' steps in them (`PrintsTheLoop`); and of all events that came, with no premise, since
--- none can break one whatever the link does: no port was in WR_LINK_ON unless its peer had passed the required steps of that same
--- handshake (`LinkOnIsEarned`); every track line's true offset is at most its printed bound (`TracksAreWithin`); and a malformed
--- or foreign frame changed only a counter (`DropsOnlyCount`). Where it was done, its lines are told apart again: those of the
--- events, and what an audit of these events writes (`IsToldApart`). This project's profile.
+-- The aim of the project, part by part, for what a run over a link wrote, for each status. It printed the events that
+-- came, each after `= `, and the lines of the nodes' steps in them (`PrintsTheLoop`). Of all events that came, the
+-- following holds with no premise, since no event can break one whatever the link does: no port was in WR_LINK_ON
+-- unless its peer had passed the required steps of that same handshake (`LinkOnIsEarned`); every track line's true
+-- offset is at most its printed bound (`TracksAreWithin`); and a malformed or foreign frame changed only a counter
+-- (`DropsOnlyCount`). If the run was done, its lines can be told apart again: the lines of the events, and what an
+-- audit of these events writes (`IsToldApart`). This project's profile.
 use Rattle.std.specs.Prelude.{◌≡◌, ◌⊎◌, ℕ, List, [], ◌∷◌, ◌++◌, map}
 use Rattle.std.specs.List.{AllByRecursion}
 use Rattle.wrp_course.specs.Run.{Happened, world_after}
@@ -31,8 +32,8 @@ use Rattle.wrp_scene.specs.Scenario.{SceneAt}
 
 -- Which events came
 
--- this seed is asked for, the records say this scenario of the network that the text before them describes, and a loop by both
--- came to here, of which the link told the first of these calls
+-- this seed is asked for, the records say this scenario of the network that the text before them describes, and a loop
+-- by both, with the first of these calls of the link, came to here
 pub record Looped (asked : CommandLine) (input : List ℕ) (calls : List LinkCall) (s : Setting) (last : Going)
     : Type 0 where
   pub seed : ℕ
@@ -48,13 +49,15 @@ pub record Looped (asked : CommandLine) (input : List ℕ) (calls : List LinkCal
 
 -- The first part
 
--- the lines that are written of events: each event behind `= `, and then the lines of its nodes' steps, as an audit writes them
+-- the lines that are written of events: each event after `= `, and then the lines of its nodes' steps, as an audit
+-- writes them
 abbrev pub came_lines : Setting → List Happened → List ℕ
 came_lines s [] = []
 came_lines s (h ∷ before) = came_lines s before ++ (marked_line s.cfg h.event ++ event_lines s before h)
 
--- what stands behind them, by the status: the counters and the number of forged datagrams, and no event comes any more; the line
--- that names the number of the next event as too great; nothing, where a call at the next arrival failed, or there was no memory
+-- what follows them, by the status: the counters and the number of forged datagrams, and no event comes any more; the
+-- line that names the number of the next event as too great; nothing, if a call at the next arrival failed, or memory
+-- ran out
 abbrev pub StandsBehind : Status → Plan → (calls later : List LinkCall) → Going → List ℕ → Type 0
 StandsBehind Done x calls later last text =
     IsOver x last × (later ≡ []) × (text ≡ closing_lines x.setting (place last))
@@ -64,7 +67,7 @@ StandsBehind LinkFault x calls later last text = CallFails x calls (place last) 
 StandsBehind OutOfMemory x calls later last text = IsShort x calls last × (text ≡ [])
 StandsBehind _ x calls later last text = ⊥
 
--- the lines of the events that came, and what stands behind them
+-- the lines of the events that came, and what follows them
 pub record LoopOf (asked : CommandLine) (input : List ℕ) (calls : List LinkCall) (status : Status) (octets : List ℕ)
     : Type 0 where
   pub setting : Setting
@@ -74,7 +77,8 @@ pub record LoopOf (asked : CommandLine) (input : List ℕ) (calls : List LinkCal
   pub ends : StandsBehind status (plan_of setting came.scene came.seed) calls came.later last behind
   pub is : octets ≡ came_lines setting (events_at (place last)) ++ behind
 
--- a line of its records is refused, or too large: its line stands alone behind lines of a scenario, and no call is made
+-- after lines of a scenario a line of its records is refused, or too large: only the line that names it is written,
+-- and no call is made
 pub record LacksScene (asked : CommandLine) (input : List ℕ) (calls : List LinkCall) (status : Status) (octets : List ℕ)
     : Type 0 where
   pub setting : Setting
@@ -89,7 +93,7 @@ pub record LacksScene (asked : CommandLine) (input : List ℕ) (calls : List Lin
   pub is : NamesLine status setting front line octets
   pub uncalled : calls ≡ []
 
--- behind a whole scenario the link did not start, and nothing is written
+-- after a whole scenario the link did not start, and nothing is written
 pub record NotStarted (asked : CommandLine) (input : List ℕ) (calls : List LinkCall) (octets : List ℕ) : Type 0 where
   pub setting : Setting
   pub seed : ℕ
@@ -103,28 +107,28 @@ abbrev pub LacksLink : CommandLine → List ℕ → List LinkCall → Status →
 LacksLink asked input calls LinkFault octets = NotStarted asked input calls octets
 LacksLink asked input calls _ octets = ⊥
 
--- what is due for a status; where no record was reached, no call was made
+-- what is expected for a status; if no record was reached, no call was made
 abbrev pub IsLoopDue : CommandLine → List ℕ → List LinkCall → Status → List ℕ → Type 0
 IsLoopDue asked input calls status octets =
     (ReachesNone input status octets × (calls ≡ []))
     ⊎ (LacksScene asked input calls status octets
     ⊎ (LacksLink asked input calls status octets ⊎ LoopOf asked input calls status octets))
 
--- a run over a link prints exactly its events and the nodes' steps in them, and never tells of a broken premise
+-- a run over a link prints exactly its events and the nodes' steps in them, and never reports a broken premise
 abbrev pub PrintsTheLoop : CommandLine → List ℕ → List LinkCall → Status → List ℕ → Type 0
 PrintsTheLoop asked input calls status octets = Prints (λ due text. IsLoopDue asked input calls due text) status octets
 
 -- The audit of its events
 
--- of the lines of the octets, those behind `= ` are the events, and the others are the lines that an audit of these events writes
--- of the nodes' steps and of their counters, and then the line of forged datagrams, where any was
+-- of the lines of the octets, the ones after `= ` are the events, and the others are the lines that an audit of these
+-- events writes of the nodes' steps and of their counters, and then the line of forged datagrams, if there was any
 pub record IsToldApart (s : Setting) (last : Going) (octets : List ℕ) : Type 0 where
   pub marked : marked_in (lines_of octets) ≡ told_lines s (events_at (place last))
   pub others : others_in (lines_of octets)
       ≡ lines_of (audit_lines s (events_at (place last)) ++ all_counts s (world_after s (events_at (place last))))
       ++ forged_lines (place last).forged
 
--- so it is of what was written where the run was done
+-- so it is of what was written if the run was done
 abbrev pub TellsApart : CommandLine → List ℕ → List LinkCall → Status → List ℕ → Type 0
 TellsApart asked input calls Done octets =
     (loop : LoopOf asked input calls Done octets) × IsToldApart loop.setting loop.last octets
@@ -138,7 +142,7 @@ LoopedEventsCarryParts =
     (asked : CommandLine) (input : List ℕ) (calls : List LinkCall) (s : Setting) (last : Going) →
     Looped asked input calls s last → CarriesRun event_lines s (events_at (place last))
 
--- of a run over a link that ended with this status and wrote these octets, where the link told these calls
+-- of a run over a link that ended with this status and wrote these octets, if the link reports these calls
 pub record LoopHeadline (asked : CommandLine) (input : List ℕ) (calls : List LinkCall) (status : Status) (octets : List ℕ)
     : Type 0 where
   pub prints : PrintsTheLoop asked input calls status octets

@@ -7,15 +7,15 @@ use Rattle.wrp_records.specs.Words.{line_of, IsWord}
 use Rattle.wrp_commands.specs.Request.{Request}
 use Rattle.wrp_commands.specs.Request as requests
 
--- nothing else than an audit, the inputs of a node in one, a simulation or a run over a link is asked for: neither a replay, nor a
--- command that stands alone
+-- what is asked for is an audit, the inputs of a node in one, a simulation or a run over a link: neither a replay, nor
+-- a command that stands alone
 abbrev pub ReportsOffsets : Option Request → Type 0
 ReportsOffsets (Some (requests.OnNetwork (requests.Replay name))) = ⊥
 ReportsOffsets (Some (requests.StandAlone alone)) = ⊥
 ReportsOffsets _ = Unit {0}
 
--- where the line is NODE TICK track EST BOUND true OFF, with its LF, BOUND and OFF are numbers in tau, and the size of OFF is at
--- most BOUND
+-- if the line is NODE TICK track EST BOUND true OFF, with its LF, BOUND and OFF are numbers in tau, and the size of OFF
+-- is at most BOUND
 abbrev pub IsWithinItsBound : List ℕ → Type 0
 IsWithinItsBound line =
     (node tick est bound off : List ℕ) → IsWord node → IsWord tick → IsWord est → IsWord bound → IsWord off →

@@ -1,6 +1,6 @@
--- The aim of the project of what a replay wrote, for each status: it printed exactly the lines of what the node puts out at the inputs
--- that the records say (`PrintsTheOutputs`); and of these inputs a malformed or foreign frame changed only a counter
--- (`FramesOnlyCount`). This project's profile.
+-- The aim of the project for what a replay wrote, for each status: it printed exactly the lines of what the node puts
+-- out at the inputs that the records say (`PrintsTheOutputs`); and of these inputs a malformed or foreign frame changed
+-- only a counter (`FramesOnlyCount`). This project's profile.
 use Rattle.std.specs.Prelude.{◌≡◌, ◌⊎◌, ℕ, ◌+◌, Some, IfSome, List, [], ◌∷◌, ◌++◌, length, map}
 use Rattle.std.specs.Io.KnownBytes.{Appends}
 use Rattle.wrp_node.specs.declared.interface.Input.{Input}
@@ -42,8 +42,8 @@ pub record InputsCame (asked : CommandLine) (input : List ℕ) (site : LineSetti
 
 -- The first part
 
--- what is written after the lines of these inputs, by the status: the counters that are not 0, and no record is left; the line that
--- names the next record as refused, or as too large; nothing, where the source failed or there was no memory
+-- what is written after the lines of these inputs, by the status: the counters that are not 0, and no record is left;
+-- the line that names the next record as refused, or as too large; nothing, if the source failed or memory ran out
 abbrev pub EndsInputs : Status → LineSetting → List Taken → (front rest : List (List ℕ)) → (last : List ℕ) → Type 0
 EndsInputs Done site inputs front rest last =
     (rest ≡ []) × (last ≡ node_counts site (node_after (node_setting_at site) inputs))
@@ -82,7 +82,7 @@ pub record LeavesOneCount (site : LineSetting) (before : List Taken) (t : Taken)
       node_after (node_setting_at site) (t ∷ before) ≡ with_count p reason (node_after (node_setting_at site) before)
   pub silent : outputs_at (node_setting_at site) before t ≡ []
 
--- so it is where the input is a frame that the node drops for one of the reasons 1 to 12
+-- so it is if the input is a frame that the node drops for one of the reasons 1 to 12
 abbrev pub LeavesOneCountIf : LineSetting → List Taken → Taken → Input → Type 0
 LeavesOneCountIf site before t (Frame p octets raw sample) =
     (reason : ℕ) → reason_of (node_setting_at site) (node_after (node_setting_at site) before) p t.says ≡ Some reason →
@@ -101,7 +101,7 @@ pub record ReplayHeadline (asked : CommandLine) (input : List ℕ) (status : Sta
   pub prints : PrintsTheOutputs asked input status octets
   pub drops : (site : LineSetting) (inputs : List Taken) → InputsCame asked input site inputs → FramesOnlyCount site inputs
 
--- so it is of whatever a run wrote of which a replay is asked
+-- so it is for whatever a run wrote that was asked for a replay
 abbrev pub ReplaysAreTold : Type 0
 ReplaysAreTold =
     (run : Run) (status : Status) (name : List ℕ) → Ends run status → IsReplay run.asked name →

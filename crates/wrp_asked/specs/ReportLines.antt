@@ -1,5 +1,5 @@
--- Each report of TRACK in an event, and each that a link is on, has its line among those that are written of the event, so what is
--- said of these lines is not said of none (this project's profile).
+-- Each report of TRACK in an event, and each report that a link is on, has its line among the lines that are written of
+-- the event, so what is said of these lines is not said of none (this project's profile).
 use Rattle.std.specs.Prelude.{◌≡◌, ℕ, ℤ, List, [], ◌∷◌, codes}
 use Rattle.std.specs.Fmt.{decimal, signed_decimal}
 use Rattle.std.specs.List.{AllByRecursion, Contains}
@@ -21,7 +21,7 @@ use Rattle.wrp_audit.specs.AuditText.{event_lines}
 use Rattle.wrp_asked.specs.EventLines.{Writing}
 use Rattle.wrp_asked.specs.SimHeadline.{run_lines}
 
--- of what a node put out in an event that left this world: some line of it is one of these
+-- for what a node put out in an event that led to this world: some line is one of these
 abbrev pub LineOf : Type 1
 LineOf = Setting → WorldAt → List (List ℕ) → ℕ → Output → Type 0
 

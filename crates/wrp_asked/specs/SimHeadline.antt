@@ -43,8 +43,8 @@ run_lines s before h = flat_map (printed_lines s (world_after s (h ∷ before)))
 
 -- The first part
 
--- what stands behind the lines of these events, by the status: those that sum up, and no event comes any more; the line that
--- names the number of the next event as too great; nothing, where there was no memory
+-- what follows the lines of these events, by the status: the lines of the sums, and no event comes any more; the line
+-- that names the number of the next event as too great; nothing, if memory ran out
 abbrev pub StandsAfter : Status → Setting → SceneAt → List Happened → SimAt → List ℕ → Type 0
 StandsAfter Done s scene events at last =
     Gives scene s (world_after s events) at None × (last ≡ sum_lines s events)
@@ -54,7 +54,7 @@ StandsAfter TooLarge s scene events at last =
 StandsAfter OutOfMemory s scene events at last = last ≡ []
 StandsAfter _ s scene events at last = ⊥
 
--- the lines of the nodes' steps in events that are made, and what stands behind them
+-- the lines of the nodes' steps in events that are made, and what follows them
 pub record RunOf (asked : CommandLine) (input : List ℕ) (status : Status) (octets : List ℕ) : Type 0 where
   pub setting : Setting
   pub events : List Happened
@@ -69,7 +69,7 @@ NamesLine BadTrace s front line octets = SimRefuses s (map content_of front) (co
 NamesLine TooLarge s front line octets = IsTooLarge line (length front) × (octets ≡ large_line (length front + 1))
 NamesLine _ s front line octets = ⊥
 
--- it stands alone behind lines of a scenario: no event is made
+-- only this line is written, after lines of a scenario: no event is made
 pub record LacksScenario (asked : CommandLine) (input : List ℕ) (status : Status) (octets : List ℕ) : Type 0 where
   pub setting : Setting
   pub seed : ℕ
@@ -82,7 +82,7 @@ pub record LacksScenario (asked : CommandLine) (input : List ℕ) (status : Stat
   pub said : IsScenario setting (map content_of front) scene
   pub is : NamesLine status setting front line octets
 
--- a simulation prints exactly the nodes' steps, and never tells of a broken premise
+-- a simulation prints exactly the nodes' steps, and never reports a broken premise
 abbrev pub PrintsTheRun : CommandLine → List ℕ → Status → List ℕ → Type 0
 PrintsTheRun asked input status octets =
     Prints

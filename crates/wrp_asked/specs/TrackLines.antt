@@ -14,8 +14,8 @@ use Rattle.wrp_course.specs.WorldAt.{WorldAt}
 use Rattle.wrp_asked.specs.EventLines.{AtEachEvent, Writing}
 use Rattle.wrp_records.specs.Lines.{lines_of}
 
--- these words are a node's name, an estimate, a bound and an offset from true time: the bound is that of the node's path, the
--- offset the node's, which is within the bound, and the estimate is near the node's offset from its parent
+-- these words are a node's name, an estimate, a bound and an offset from true time: the bound is the bound of the
+-- node's path, the offset is the node's and is within it, and the estimate is near the node's offset from its parent
 pub record TellsTruth (s : Setting) (w : WorldAt) (node est bound off : List ℕ) : Type 0 where
   pub number : ℕ
   pub estimate : ℤ
@@ -30,7 +30,7 @@ pub record TellsTruth (s : Setting) (w : WorldAt) (node est bound off : List ℕ
   pub own : offset ≡ (w.clock number).off
   pub report : IsTrueReport s w number estimate
 
--- a line that is written of an event which left this world: where it says NODE TICK track EST BOUND true OFF, that is so
+-- a line that is written of an event which led to this world: if it says NODE TICK track EST BOUND true OFF, that is so
 abbrev pub IsTrueLine : Setting → WorldAt → List ℕ → Type 0
 IsTrueLine s w line =
     (node tick est bound off : List ℕ) → IsWord node → IsWord tick → IsWord est → IsWord bound → IsWord off →

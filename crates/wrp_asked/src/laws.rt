@@ -1,4 +1,5 @@
-//! Laws of what is due, and of audits, simulations and runs over a link: functions that do nothing, whose contracts are the laws.
+//! Laws of what is expected, and of audits, simulations and runs over a link. The functions do nothing; their contracts
+//! are the laws.
 ghost use Rattle.wrp_asked.specs.AnswerLaws.{OneAnswer, RunsPrintWithinBounds};
 ghost use Rattle.wrp_asked.specs.EmitHeadline.{EmissionsTellNoTrack};
 ghost use Rattle.wrp_asked.specs.Headline.{EventsCarryParts};
@@ -61,8 +62,8 @@ pub fn looped_events_carry_parts()
     hops_are_kept();
 }
 
-/// No line that an audit prints which is asked for the inputs of a node begins as a `track` line does, whatever its
-/// status is: not the line that names what is refused, and no line that is cut.
+/// No line of an audit that is asked for the inputs of a node begins as a `track` line does, whatever the status
+/// is: neither the line that names what is refused, nor a line that is cut.
 pub fn emissions_tell_no_track()
     ensures { EmissionsTellNoTrack }
 {
@@ -79,8 +80,8 @@ pub fn replays_are_told()
     one_run();
 }
 
-/// In each line NODE TICK track EST BOUND true OFF that a run wrote of an audit, a simulation or a run over a link, the size
-/// of OFF is at most BOUND, whatever its status is. A line that was cut off before its LF is no such line.
+/// In each line NODE TICK track EST BOUND true OFF that a run wrote of an audit, a simulation or a run over a link, the
+/// size of OFF is at most BOUND, whatever the status is. A line that was cut off before its LF is no such line.
 pub fn runs_print_within_bounds()
     ensures { RunsPrintWithinBounds }
 {
@@ -93,15 +94,16 @@ pub fn runs_print_within_bounds()
     loop_is_audited();
 }
 
-/// Each report of TRACK in an event has its line among those that an audit and a run over a link write of the event,
-/// and among those of a simulation: the name and the tick count of the node, the estimate, the node's path, and its
-/// offset from true time. So the law above speaks of some line wherever a node reports TRACK.
+/// Each report of TRACK in an event has its line among the lines that an audit and a run over a link write of the
+/// event, and among the lines of a simulation: the name and the tick count of the node, the estimate, the node's
+/// path, and its offset from true time. So the law above speaks of some line wherever a node reports TRACK.
 pub fn track_reports_have_lines()
     ensures { TrackReportsHaveLines }
 {}
 
-/// So it is with each report that a link is on: among these lines is the one with the name and the tick count of the
-/// node and the port. So what the aim says of such lines speaks of some line wherever a node reports that a link is on.
+/// The same holds of each report that a link is on: among these lines is the one with the name and the tick count of
+/// the node and the port. So what the aim says of such lines speaks of some line wherever a node reports a link that is
+/// on.
 pub fn link_on_reports_have_lines()
     ensures { LinkOnReportsHaveLines }
 {}

@@ -1,7 +1,8 @@
-//! What is expected of a run of `wrnet`: where the network text ends, and which status and octets are due for what is asked, an input
-//! and the calls of a link (`Answer`, in the folder `specs`); how a run ends by its status (`Ends`); what an answer is worth
-//! (`Headline` and its neighbours); and laws over all of these. No word of the command line is named here: `wrp_commands` has what can
-//! be asked, and `wrp_words` by which words. Inputs, lines and statuses are this project's profile.
+//! What is expected of a run of `wrnet`: where the network text ends, and which status and octets are expected for what
+//! is asked, an input and the calls of a link (`Answer`, in the folder `specs`); how a run ends, by its status
+//! (`Ends`); what an answer is worth (`Headline` and its neighbours); and laws over all of these. No word of the
+//! command line is named here: `wrp_commands` has what can be asked, and `wrp_words` has the words for it. Inputs,
+//! lines and statuses are this project's profile.
 #![tactic(auto)]
 
 mod laws;

@@ -48,8 +48,8 @@ fn may_end_network(line: &[u8]) -> bool
     b"---\r".starts_with(line)
 }
 
-// Gives the next line. A line that is not whole yet is not read on where it has more than `left`
-// octets and cannot become the line that ends the network text.
+// Gives the next line. A line that is not whole yet is read no further if it has more than `left` octets
+// and cannot become the line that ends the network text.
 fn next_line<S: Source>(
     reader: &mut Reader,
     source: &mut S,

@@ -7,11 +7,11 @@ use Rattle.wrp_network.specs.declared.configuration.NetCfg.{NetCfg}
 use Rattle.wrp_bounds.specs.declared.inequality.Inequality.{Inequality}
 use Rattle.wrp_bounds.specs.Inequalities.{is_broken, quiet_time, holdover_time, phase_rooms, tick_times, holdoff_time, flight_time, lock_counts, id_reuse, port_delays, inequalities}
 
--- those before the third
+-- the inequalities before the third
 abbrev pub before_rooms : NetCfg → List Inequality
 before_rooms net = quiet_time net ∷ (holdover_time net ∷ [])
 
--- those behind it
+-- the inequalities after it
 abbrev pub behind_rooms : NetCfg → List Inequality
 behind_rooms net =
     tick_times net ∷ (holdoff_time net ∷ (flight_time net ∷ (lock_counts net ∷ (id_reuse net ∷ (port_delays net ∷ [])))))

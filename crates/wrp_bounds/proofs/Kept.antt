@@ -1,4 +1,4 @@
--- A network passes the check exactly where it keeps each inequality.
+-- A network passes the check if and only if it keeps each inequality.
 use Rattle.std.proofs.Common.{◌≡◌, ℕ, pos, zero, suc, ◌+◌, ◌*◌, ◌<◌, ◌≤◌, refl, ap, ap₂, sym, ◌∙◌, List, [], ◌∷◌, Bool, false, not, Option, Some, None, length, arith}
 use Rattle.std.proofs.lemmas.Int.{ints}
 use Rattle.std.specs.Prelude.{find, int_lt}
@@ -29,7 +29,7 @@ less_keeps a b is = grind (arith, ints)
 at_most_keeps : (a b : ℕ) → a ≤ b → not (not (int_lt (pos b) (pos a))) ≡ false
 at_most_keeps a b is = grind (arith, ints)
 
--- the same of what may stand first
+-- the same of an element that may come first
 some_passed : {X : Type 0} (p : X → Bool) (o : Option X) (xs : List X) → find p (cons_option o xs) ≡ None → ((x : X) → o ≡ Some x → p x ≡ false) × (find p xs ≡ None)
 some_passed p None xs none = (λ x is. absurd (cc), none)
 some_passed p (Some y) xs none =
@@ -50,7 +50,7 @@ rooms_kept net from (node ∷ nodes) none (suc n) room within is =
     rooms_kept net (from + 1) nodes (some_passed is_broken (phase_room_of net from) (phase_rooms_from net (from + 1) nodes) none).1 n room (omega arith)
     (let place : from + 1 + n ≡ from + suc n = omega arith in ap (phase_room_of net) place ∙ is)
 
--- and a search finds nothing where it is kept at each
+-- and a search finds nothing if it is kept at each
 rooms_keep : (net : NetCfg) (from : ℕ) (nodes : List NodeCfg) →
     ((n : ℕ) (room : Inequality) → n < length nodes → phase_room_of net (from + n) ≡ Some room → is_broken room ≡ false) →
     find is_broken (phase_rooms_from net from nodes) ≡ None
@@ -75,13 +75,13 @@ none_passes : {X : Type 0} (p : X → Bool) (xs : List X) → FailsEach p xs →
 none_passes p [] fails = refl
 none_passes p (x ∷ xs) fails = passes_first p x xs fails.0 (none_passes p xs fails.1)
 
--- of three searches in a row none finds anything exactly where each finds nothing
+-- of three searches in a row none finds anything if and only if each finds nothing
 none_of_three : {X : Type 0} (a b c : Option X) → option_or (option_or a b) c ≡ None → (a ≡ None) × (b ≡ None) × (c ≡ None)
 none_of_three None None c none = (refl, refl, none)
 none_of_three None (Some x) c none = absurd (cc)
 none_of_three (Some x) b c none = absurd (cc)
 
--- the third inequality at a node is that of the node's hop
+-- the third inequality at a node is the third inequality of the node's hop
 room_of : (net : NetCfg) (o : Option HopNumbers) (room : Inequality) → option_map (phase_room net) o ≡ Some room → (k : HopNumbers) × (o ≡ Some k) × (phase_room net k ≡ room)
 room_of net None room is = absurd (cc)
 room_of net (Some k) room is = (k, refl, cc)
@@ -101,7 +101,7 @@ room_keeps net n room keeps within is =
     let at : (k : HopNumbers) × (numbers_of net n ≡ Some k) × (phase_room net k ≡ room) = room_of net (numbers_of net n) room (ap (phase_room_of net) place ∙ is) in
     ap is_broken (sym at.2) ∙ less_keeps (2 * gap_motion at.0 + 4 * detector_error at.0) (period_of net.clock) (keeps.phase_room n at.0 within at.1)
 
--- where no inequality is broken, each is kept
+-- if no inequality is broken, each is kept
 pub kept_of_none : (net : NetCfg) → find is_broken (inequalities net) ≡ None → KeepsInequalities net
 unfolding quiet_time holdover_time tick_times holdoff_time flight_time lock_counts id_reuse port_delays
 kept_of_none net none =
@@ -121,7 +121,7 @@ kept_of_none net none =
       port_delays = at_most_kept _ _ behind.1.1.1.1.1.0;
     }
 
--- where each is kept, none is broken
+-- if each is kept, none is broken
 pub none_of_kept : (net : NetCfg) → KeepsInequalities net → find is_broken (inequalities net) ≡ None
 unfolding quiet_time holdover_time tick_times holdoff_time flight_time lock_counts id_reuse port_delays
 none_of_kept net keeps =

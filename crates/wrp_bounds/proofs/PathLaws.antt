@@ -1,4 +1,4 @@
--- The path of a child, and that of the grandmaster.
+-- The path of a child, and the path of the grandmaster.
 use Rattle.std.proofs.Common.{◌≡◌, ℕ, zero, suc, ◌+◌, ◌≤◌, refl, ap, sym, subst, ◌∙◌, List, ◌∷◌, Option, Some, None, arith}
 use Rattle.std.specs.Prelude.{sum_by}
 use Rattle.std.specs.Option.{option_map_or, option_and_then}
@@ -11,7 +11,7 @@ use Rattle.wrp_bounds.specs.Bounds.{numbers_over, hop_of, hop_over, held_motion,
 use Rattle.wrp_bounds.specs.Laws.{PathOfChild, GrandmasterIsExact}
 use Rattle.wrp_bounds.proofs.WayUp.{links_up-top, links_up-step}
 
--- the way up does not depend on how many links are allowed, where they reach the top
+-- the way up does not depend on how many links are allowed, if they reach the top
 links_up-enough : (net : NetCfg) (depth most n : ℕ) → HasDepth net depth n → depth ≤ most → links_up most net n ≡ links_up depth net n
 links_up-enough net zero most n top enough = links_up-top most net n top ∙ sym (links_up-top zero net n top)
 links_up-enough net (suc depth) zero n deep enough = absurd (omega arith)

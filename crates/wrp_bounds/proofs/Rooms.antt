@@ -9,7 +9,7 @@ use Rattle.wrp_network.specs.declared.network.NodeCfg.{NodeCfg}
 use Rattle.wrp_bounds.specs.declared.inequality.Inequality.{Inequality}
 use Rattle.wrp_bounds.specs.Inequalities.{is_broken, phase_room_of, phase_rooms_from}
 
--- a search begins with what stands first, if anything does
+-- a search begins with the first element, if there is one
 find-cons_option : {X : Type 0} (p : X → Bool) (o : Option X) (xs : List X) → find p (cons_option o xs) ≡ option_or (find p (option_to_list o)) (find p xs)
 find-cons_option p None xs = refl
 find-cons_option p (Some x) xs =
@@ -31,7 +31,7 @@ rooms_from-drop : (net : NetCfg) (n : ℕ) (nodes : List NodeCfg) → n < length
     phase_rooms_from net n (drop n nodes) ≡ cons_option (phase_room_of net n) (phase_rooms_from net (n + 1) (drop (n + 1) nodes))
 rooms_from-drop net n nodes within = ap (phase_rooms_from net n) (drop_within nodes n within).1
 
--- the first that is broken stands at the next node, or behind it
+-- the first that is broken is at the next node, or after it
 rooms_on : (net : NetCfg) (n : ℕ) (nodes : List NodeCfg) (whole : Option Inequality) → n < length nodes →
     find is_broken (phase_rooms_from net n (drop n nodes)) ≡ whole →
     option_or (find is_broken (option_to_list (phase_room_of net n))) (find is_broken (phase_rooms_from net (n + 1) (drop (n + 1) nodes))) ≡ whole
@@ -39,7 +39,7 @@ rooms_on net n nodes whole within so_far =
     sym (find-cons_option is_broken (phase_room_of net n) (phase_rooms_from net (n + 1) (drop (n + 1) nodes)))
     ∙ sym (ap (find is_broken) (rooms_from-drop net n nodes within)) ∙ so_far
 
--- where the next node breaks it, that is the first
+-- if the next node breaks it, that is the first
 pub room_found : (net : NetCfg) (n : ℕ) (nodes : List NodeCfg) (whole : Option Inequality) (room : Inequality) → n < length nodes →
     find is_broken (phase_rooms_from net n (drop n nodes)) ≡ whole →
     Some room ≡ find is_broken (option_to_list (phase_room_of net n)) → Some room ≡ whole
@@ -47,7 +47,7 @@ room_found net n nodes whole room within so_far is =
     ap (λ (o : Option Inequality). option_or o (find is_broken (phase_rooms_from net (n + 1) (drop (n + 1) nodes)))) is
     ∙ rooms_on net n nodes whole within so_far
 
--- and where it does not, the first is behind it
+-- and if it does not, the first is after it
 pub room_passed : (net : NetCfg) (n : ℕ) (nodes : List NodeCfg) (whole : Option Inequality) → n < length nodes →
     find is_broken (phase_rooms_from net n (drop n nodes)) ≡ whole →
     None ≡ find is_broken (option_to_list (phase_room_of net n)) →

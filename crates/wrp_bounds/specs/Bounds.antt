@@ -21,7 +21,7 @@ abbrev pub end_of : NetCfg → ℕ → NodeCfg → NodeNumbers
 end_of net n node = record { e_tx = node.e_tx; e_tag = node.e_tag; rate = rate_of net n node }
 
 -- what the bound of a hop is made of: the two nodes', the link's and the network's numbers; there
--- is none where an end is no node
+-- is none if an end is no node
 abbrev pub numbers_between :
     NetCfg → LinkCfg → Option NodeCfg → Option NodeCfg → Option HopNumbers
 numbers_between net link (Some own) (Some parent) = Some (record {

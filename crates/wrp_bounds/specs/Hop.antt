@@ -53,7 +53,7 @@ estimate_error hop =
     down_error hop + detector_error hop + gap_motion hop + scaled_error hop
     + 2 * hop.e_db + hop.e_asym + age_motion hop + hop.law_err
 
--- the bound of the hop: what TRACK and the loop let stand, and the estimate's error
+-- the bound of the hop: what TRACK and the loop leave, and the estimate's error
 abbrev pub hop_bound : HopNumbers → ℕ
 hop_bound hop = hop.track_tau + hop.loop_tau + estimate_error hop
 

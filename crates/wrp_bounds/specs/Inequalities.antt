@@ -95,11 +95,11 @@ inequalities net =
     (tick_times net ∷ (holdoff_time net ∷ (flight_time net ∷
     (lock_counts net ∷ (id_reuse net ∷ (port_delays net ∷ []))))))
 
--- what is told of an inequality that is broken
+-- what is reported of an inequality that is broken
 abbrev pub clash_of : Inequality → Clash
 clash_of i = record { number = i.number; left = i.left; right = i.right }
 
--- the answer where this inequality is the first that is broken, or none is
+-- the answer if this inequality is the first that is broken, or none is
 abbrev pub answer_of : Option Inequality → Result (Unit {0}) Clash
 answer_of None = Ok tt
 answer_of (Some i) = Err (clash_of i)

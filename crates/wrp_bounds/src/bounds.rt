@@ -39,8 +39,8 @@ pub fn path(cfg: &NetCfg, n: u8) -> Tau
     path_sum(cfg, n) as i128
 }
 
-/// How far a node in HOLDOVER may be from the grandmaster, in tau: its bound in TRACK, and how far
-/// it moves in the longest HOLDOVER. 0 of the grandmaster.
+/// How far a node in HOLDOVER may be from the grandmaster, in tau: its bound in TRACK, and how far it
+/// moves in the longest HOLDOVER. 0 for the grandmaster.
 pub fn holdover(cfg: &NetCfg, n: u8) -> Tau
     requires ranges { HasRanges cfg.now }
     requires tree { IsTree cfg.now }

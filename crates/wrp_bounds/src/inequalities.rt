@@ -16,8 +16,8 @@ use wrp_network::NetCfg;
 const IDS: u64 = 65_000;
 
 /// Tries the nine inequalities in their order. The error is the first that is broken, with both its
-/// sides; it is Ok exactly where all of them hold. The third is tried at each node that has a parent,
-/// in file order.
+/// sides; the result is Ok if and only if all of them hold. The third is tried at each node that has a
+/// parent, in file order.
 pub fn check(cfg: &NetCfg) -> Result<(), Clash>
     requires ranges { HasRanges cfg.now }
     requires tree { IsTree cfg.now }

@@ -1,10 +1,10 @@
-//! One inequality: its number, its sides, and how they have to lie.
+//! One inequality: its number, its sides, and how they have to compare.
 ghost use Rattle.std.specs.Prelude.{◌≡◌, ◌^◌, ◌≤◌, List, find, not};
 
 use wrp_base::Tau;
 
-/// The least numbered inequality that a network breaks, at the first node in file order, and both
-/// its sides: in tau, but of the fifth in ticks and of the seventh in counts.
+/// The least numbered inequality that a network breaks, at the first node in file order, and both its
+/// sides: in tau, but for the fifth in ticks and for the seventh in counts.
 #[derive(Clone, Copy, Debug, Default, PartialEq, Eq)]
 pub struct Clash {
     /// The inequality's number: 1 to 9.
@@ -15,7 +15,7 @@ pub struct Clash {
     pub right: Tau,
 }
 
-/// How the left side of an inequality has to lie to the right one.
+/// How the left side of an inequality has to compare with the right one.
 #[derive(Clone, Copy)]
 pub enum Order {
     /// Below it.
@@ -68,7 +68,7 @@ impl Inequality {
         }
     }
 
-    // What is told of it where it is broken.
+    // What is reported of it if it is broken.
     pub fn clash(&self) -> Clash
         ensures { result ≡ clash_of self.now }
     {

@@ -19,7 +19,7 @@ fn first_above<'a>(cfg: &'a NetCfg, n: u8) -> Option<&'a LinkCfg>
     cfg.links.iter().find(|link| link.lower == n)
 }
 
-/// The link above a node. None where the node has none above it, as the root.
+/// The link above a node. None if the node has none above it, as the root.
 pub fn link_above<'a>(cfg: &'a NetCfg, n: u8) -> Option<&'a LinkCfg>
     requires ranges { HasRanges cfg.now }
     requires tree { IsTree cfg.now }

@@ -16,7 +16,7 @@ pub struct NodeNumbers {
     pub e_tx: u64,
     /// The bound on a tag's error, in tau.
     pub e_tag: u64,
-    /// The greatest rate of the node's clock, in `10^-12`: 0 of the grandmaster's.
+    /// The greatest rate of the node's clock, in `10^-12`: 0 for the grandmaster's.
     pub rate: u64,
 }
 

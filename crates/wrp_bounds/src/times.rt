@@ -9,7 +9,7 @@ use wrp_network::NetCfg;
 /// One ns, in tau.
 const TAU_OF_NS: u128 = 65_536_000;
 
-// A number of the network, none of which that is meant here is negative.
+// A number of the network; none of the numbers meant here is negative.
 pub fn count(number: i64) -> u64
     requires { IsFromTo 0 1_000_000_000 number }
     ensures value { result ≡ unsigned_abs number }

@@ -1,4 +1,4 @@
-//! What is tested after every event: by what the world tells, and by nothing that it keeps for itself.
+//! What is tested after every event: by what the world reports, and by nothing that it keeps for itself.
 ghost use Rattle.std.specs.Prelude.{◌≡◌, ◌<◌, IsTrue, length, true};
 ghost use Rattle.wrp_node.specs.Parts.{is_among};
 ghost use Rattle.wrp_world.specs.StandsFor.{IsValid};
@@ -44,7 +44,7 @@ fn is_on<F: Fn(i64) -> i64>(world: &World<F>, end: End) -> bool
     has_port(node, end.port) && node.word(end.port) == LinkWord::In(LinkState::LinkOn)
 }
 
-// Judges a port by its own history and that of its peer, where it is in WR_LINK_ON.
+// Judges a port by its own history and its peer's, if it is in WR_LINK_ON.
 fn judge_end<F: Fn(i64) -> i64>(
     world: &World<F>,
     own: End,
@@ -101,7 +101,7 @@ pub fn judge_all<F: Fn(i64) -> i64>(world: &World<F>, counts: &mut Counts) -> Re
     Ok(())
 }
 
-// Compares a node's true offset with its bound, where it is up and in TRACK or HOLDOVER.
+// Compares a node's true offset with its bound, if it is up and in TRACK or HOLDOVER.
 fn compare<F: Fn(i64) -> i64>(
     world: &World<F>,
     node: u8,

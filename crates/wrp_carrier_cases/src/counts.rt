@@ -45,7 +45,7 @@ impl Counts {
         self.steps = self.steps.saturating_add(steps as u64);
     }
 
-    /// So many events were refused for want of memory, and taken when they came again.
+    /// So many events were refused because memory ran out, and taken when they came again.
     pub fn refuse(&mut self, times: u32) {
         self.refused = self.refused.saturating_add(u64::from(times));
     }

@@ -61,7 +61,7 @@ fn are_alike(first: &[NodeOut], second: &[NodeOut]) -> bool {
         && pairs.all(|(a, b)| a.node == b.node && a.input == b.input && a.outs == b.outs)
 }
 
-// The next event of the simulator comes to a world and to its twin, and the world is tested. Answers whether there was one.
+// The next event of the simulator comes to a world and to its twin, and the world is tested. Returns whether one came.
 fn step<F: Fn(i64) -> i64>(
     trial: &mut Trial<F>,
     twin: &mut Trial<F>,
@@ -157,7 +157,7 @@ fn run_worlds<F: Fn(i64) -> i64>(
     run_scene(alloc, &mut trial, &mut twin, text.as_str(), counts)
 }
 
-/// Runs a plan: nothing is told where each event was taken, and each test held.
+/// Runs a plan: nothing is reported if each event was taken, and each test held.
 pub fn run_plan(alloc: Global, plan: Plan, counts: &mut Counts) -> Result<(), Failure> {
     let down = |x: i64|
         requires { unsigned_abs x ≤ 2 ^ 53 }

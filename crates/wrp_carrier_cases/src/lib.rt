@@ -4,12 +4,12 @@
 //! switch goes down and comes up again. After every event each port in WR_LINK_ON is judged by the histories of both ends
 //! of its link, and each node that is up and in TRACK or HOLDOVER is compared with its bound there.
 //!
-//! The events come to two worlds, side by side, whose nodes have to make the same steps. If one of them had no memory for
-//! an event, it is as it was, and the event comes to it once more.
+//! The events come to two worlds, side by side, whose nodes have to make the same steps. If one of them had no memory
+//! for an event, it is as it was, and the event comes to it once more.
 //!
-//! Due is how many runs, events, steps, judged ports and compared nodes there were. Before it is a line for each run that
-//! failed, with why it did. The number is 1 where a run failed, or where there was nothing of one sort to test, else 0.
-//! The program `wrp_run_cases` has such a case, in `data/carriers.cases`.
+//! What is expected is how many runs, events, steps, judged ports and compared nodes there were. Before it is a line
+//! for each run that failed, with why it did. The number is 1 if a run failed, or if there was nothing of one sort to
+//! test, else 0. The program `wrp_run_cases` has such a case, in `data/carriers.cases`.
 #![tactic(auto)]
 
 mod checking;

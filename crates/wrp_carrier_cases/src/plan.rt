@@ -36,7 +36,7 @@ impl Plan {
         }
     }
 
-    /// The lines of its scenario: both ways of the upper fibre take 100 us, those of the lower one 50 us.
+    /// The lines of its scenario: both ways of the upper fibre take 100 us, both ways of the lower one 50 us.
     pub fn scenario(&self, alloc: Global) -> Result<String, AllocError> {
         let back = self.moment.saturating_add(500);
         let end = self.moment.saturating_add(1_000);
@@ -75,8 +75,8 @@ fn moment_of(word: &str) -> Option<u32> {
 }
 
 impl Span {
-    /// The moments from the first to the last word, as far from each other as the third says, which is at least 1. None where
-    /// a word is no number up to 5,000,000.
+    /// The moments from the first to the last word, as far from each other as the third says, which is at least 1. None
+    /// if a word is no number up to 5,000,000.
     pub fn of(from: &str, to: &str, step: &str) -> Option<Span> {
         let (from, to, step) = (moment_of(from)?, moment_of(to)?, moment_of(step)?);
         if step == 0 {

@@ -1,4 +1,4 @@
--- Where no chain stands, nothing is pending and nothing is paired.
+-- Without a chain, nothing is pending and nothing is paired.
 use Rattle.std.proofs.Common.{◌≡◌, ℕ, List, [], ◌∷◌, Option, Some, None, IsNone, refl}
 use Rattle.std.specs.Option.{option_map}
 use Rattle.wrp_exch.specs.Call.{Call, CallStart, CallClear, CallSync, CallReqOut}

@@ -1,6 +1,6 @@
 -- Neither pair's tick falls when the pair is replaced, and so the four's tick never falls, as long as
--- the ticks that are told do not fall. The argument is one for both halves of an exchange: a half holds
--- a piece that has the tick of a call, and a pair that has the tick of a piece.
+-- the given ticks do not fall. The argument is the same for both halves of an exchange: a half holds a
+-- piece that has the tick of a call, and a pair that has the tick of a piece.
 use Rattle.std.proofs.Common.{◌≡◌, refl, subst, sym, ◌⊎◌, inl, inr, ℕ, ℤ, ◌≤◌, Bool, true, false, if◌then◌else◌, ◌==◌, ◌&&◌, not, List, [], ◌∷◌, ◌++◌, Option, Some, None, IfSome, arith}
 use Rattle.std.specs.Option.{is_some, option_map, option_and_then}
 use Rattle.wrp_base.specs.declared.time.Stamp.{Stamp}
@@ -59,8 +59,8 @@ record Half (A B : Type 0) : Type 0 where
   held_at : B → ℕ
   pair_at : A → ℕ
 
--- one more call: what is held has the tick of the call or of what was held; a pair has that of what was
--- held or of the pair before; and never do both change, unless the pair is dropped
+-- one more call: what is held has the tick of the call or of what was held; a pair has the tick of what
+-- was held or of the pair before; and never do both change, unless the pair is dropped
 record IsHalf {A B : Type 0} (half : Half A B) : Type 1 where
   holds_none : half.held [] ≡ None
   pairs_none : half.pair [] ≡ None
@@ -246,6 +246,6 @@ within tick None d h = tt
 within tick (Some p) None h = tt
 within tick (Some p) (Some d) h = omega arith
 
--- the four's tick was told
+-- the four's tick was given
 pub four_of-told : (ring tick : ℕ) (calls : List Call) → NoneAfter tick calls → IfSome (four_of ring calls) (λ f. f.tick ≤ tick)
 four_of-told ring tick calls h = within tick (sync_pair ring calls) (delay_pair ring calls) (pair-told (sync_ticks ring) (sync-is_half ring) tick calls h)

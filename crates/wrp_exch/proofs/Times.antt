@@ -4,7 +4,7 @@ use Rattle.wrp_exch.specs.declared.sync.SyncPair.{SyncPair}
 use Rattle.wrp_exch.specs.declared.delay.DelayPair.{DelayPair}
 use Rattle.wrp_exch.specs.Exchange.{join_pairs, HasTimes}
 
--- the times of both pairs are those of the four
+-- the times of both pairs are the times of the four
 pub join_pairs-times : (sync : Option SyncPair) (delay : Option DelayPair)
     → IfSome sync (λ p. (unsigned_abs p.t1 < 2 ^ 105) × (unsigned_abs p.t2 < 2 ^ 105))
     → IfSome delay (λ p. (unsigned_abs p.t3 < 2 ^ 105) × (unsigned_abs p.t4 < 2 ^ 105))

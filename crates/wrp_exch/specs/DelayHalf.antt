@@ -24,7 +24,7 @@ asked half seq = record { request = option_map (λ id. record { seq = id; sent =
 abbrev pub awaits_sent : DelayHalf → ℕ → Option Request
 awaits_sent half seq = option_and_then (λ r. if (r.seq == seq) && not (is_some r.sent) then Some r else None) half.request
 
--- the request, with the sending where it is of this id and waits for one
+-- the request, with the sending if it is of this id and waits for one
 abbrev pub told_request : DelayHalf → ℕ → Option Sent → Option Request
 told_request half seq sent = option_map (λ r. if (r.seq == seq) && not (is_some r.sent) then record { seq = r.seq; sent = sent } else r) half.request
 

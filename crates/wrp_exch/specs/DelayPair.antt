@@ -20,7 +20,7 @@ last_request (_ ∷ calls) = last_request calls
 abbrev pub held_sent : Stamp → ℕ → ℤ → Sent
 held_sent t3 tick phase = record { t3 = t3.value; u3 = phase; tick = tick }
 
--- the sending told after these calls, if it is of the last request and its sample can be used
+-- the sending given after these calls, if it belongs to the last request and its sample can be used
 abbrev pub usable_sent : ℕ → List Call → ℕ → Stamp → ℕ → Option Sent
 usable_sent ring calls seq t3 tick =
     option_and_then (λ id. if id == seq then option_map (held_sent t3 tick) (latched_phase ring calls t3.sample) else None) (last_request calls)
@@ -34,7 +34,7 @@ first_sent ring (CallReqOut seq ∷ calls) = None
 first_sent ring (CallReqSent seq t3 tick ∷ calls) = option_or (first_sent ring calls) (usable_sent ring calls seq t3 tick)
 first_sent ring (_ ∷ calls) = first_sent ring calls
 
--- the sending told after these calls, if it is kept
+-- the sending given after these calls, if it is kept
 abbrev pub kept_sent : ℕ → List Call → ℕ → Stamp → ℕ → Option Sent
 kept_sent ring calls seq t3 tick = if is_some (first_sent ring calls) then None else usable_sent ring calls seq t3 tick
 
@@ -51,7 +51,7 @@ is_answered ring seq (_ ∷ calls) = is_answered ring seq calls
 abbrev pub pair_of_sent : ℤ → Sent → DelayPair
 pair_of_sent t4 sent = record { t3 = sent.t3; t4 = t4; u3 = sent.u3; tick = sent.tick }
 
--- the pair that a Delay_Resp after these calls makes: its id is that of the last request, whose
+-- the pair that a Delay_Resp after these calls makes: its id is the id of the last request, whose
 -- sending was kept, and no Delay_Resp of that id came since that sending
 abbrev pub answered_pair : ℕ → List Call → ℕ → ℤ → Option DelayPair
 answered_pair ring calls seq t4 =

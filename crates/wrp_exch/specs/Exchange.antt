@@ -20,7 +20,7 @@ use Rattle.wrp_exch.specs.DelayHalf.{delay_half}
 abbrev pub four_from : SyncPair → DelayPair → Four
 four_from s d = record { t1 = s.t1; t2 = s.t2; t3 = d.t3; t4 = d.t4; u2 = s.u2; u3 = d.u3; tick = min s.tick d.tick }
 
--- the four, where both pairs are there
+-- the four, if both pairs are there
 abbrev pub join_pairs : Option SyncPair → Option DelayPair → Option Four
 join_pairs sync delay = option_and_then (λ s. option_map (four_from s) delay) sync
 

@@ -1,4 +1,4 @@
--- Good samples: those that count, the last ones of them, and the phase at one of these.
+-- Good samples: the ones that count, the last ones of them, and the phase at one of these.
 use Rattle.std.specs.Prelude.{ℕ, ℤ, ◌==◌, List, [], ◌∷◌, take, find, Option}
 use Rattle.std.specs.Option.{option_map}
 use Rattle.wrp_exch.specs.declared.ring.GoodSample.{GoodSample}

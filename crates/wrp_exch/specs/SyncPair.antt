@@ -38,7 +38,7 @@ is_followed ring seq (_ ∷ calls) = is_followed ring seq calls
 abbrev pub pair_of_sync : HeldSync → ℤ → SyncPair
 pair_of_sync sync precise = record { t1 = precise +ℤ (pos 1000 *ℤ sync.correction); t2 = sync.t2; u2 = sync.u2; tick = sync.tick }
 
--- the pair that a Follow_Up after these calls makes: its id is that of the last kept Sync, no
+-- the pair that a Follow_Up after these calls makes: its id is the id of the last kept Sync, no
 -- Follow_Up of that id came between, and the Sync's sample is still among the last `ring` good ones
 abbrev pub followed_pair : ℕ → List Call → ℕ → ℤ → Option SyncPair
 followed_pair ring calls seq precise =

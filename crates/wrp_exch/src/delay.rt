@@ -8,7 +8,7 @@ pub struct Sent {
     pub t3: Tau,
     /// The phase at the sample that the stamp latched, in tau.
     pub u3: i64,
-    /// The tick at which the sending was told.
+    /// The tick at which the sending was given.
     pub tick: u32,
 }
 
@@ -17,7 +17,7 @@ pub struct Sent {
 pub struct Request {
     /// sequenceId.
     pub seq: u16,
-    /// Its sending, once it was told.
+    /// Its sending, once it was given.
     pub sent: Option<Sent>,
 }
 
@@ -30,7 +30,7 @@ pub struct DelayPair {
     pub t4: Tau,
     /// The phase at the sending's sample, in tau.
     pub u3: i64,
-    /// The tick at which the sending was told.
+    /// The tick at which the sending was given.
     pub tick: u32,
 }
 
@@ -68,8 +68,7 @@ impl DelayHalf {
         self.request = seq.map(|seq| Request { seq, sent: None });
     }
 
-    /// Keeps the sending of the request where it is of this id and waits for one. Answers whether it
-    /// was kept.
+    /// Keeps the sending of the request if it is of this id and waits for one. Returns whether it was kept.
     pub fn tell(&mut self, seq: u16, sent: Option<Sent>) -> bool
         requires old { HasDelayTimes self.old }
         requires t3 { IfSome sent (λ s. unsigned_abs s.t3 < 2 ^ 104) }
@@ -92,8 +91,8 @@ impl DelayHalf {
         }
     }
 
-    /// Takes a Delay_Resp: the request of its id whose sending was told makes a pair, and is pending
-    /// no more. Answers whether a pair was made.
+    /// Takes a Delay_Resp: the request with its id, if its sending was given, makes a pair, and is no
+    /// longer pending. Returns whether a pair was made.
     pub fn answer(&mut self, seq: u16, t4: Tau) -> bool
         requires old { HasDelayTimes self.old }
         requires t4 { unsigned_abs t4 < 2 ^ 104 }

@@ -43,7 +43,7 @@ impl Exchange {
     ghost use Rattle.wrp_exch.specs.Ticks.{NoneAfter, TicksRise, NotOlder};
 
     /// An exchange with no chain, which knows the last `ring` good samples: 1 to 4096. It takes all
-    /// the memory that it will need. `AllocError` where there is not that much: no exchange is made.
+    /// the memory that it will need. `AllocError` if there is not that much: no exchange is made.
     pub fn new(alloc: Global, ring: usize) -> Result<Exchange, AllocError>
         requires least { 1 ≤ ring }
         requires greatest { ring ≤ 4096 }
@@ -73,8 +73,8 @@ impl Exchange {
         self.renew(None);
     }
 
-    /// Makes the exchange one without calls: beside what a clear drops it forgets the ticks that were
-    /// told, which may start anew.
+    /// Makes the exchange one without calls. It drops what a clear drops, and also forgets the ticks
+    /// that it was given, which may restart.
     pub fn reset(&mut self)
         ensures { (ring : ℕ) (calls : List Call) → StandsFor ring self.old calls →
             StandsFor ring self.new [] }
@@ -83,7 +83,7 @@ impl Exchange {
     }
 
     /// Takes a good sample: its number and the unwrapped phase at it, in tau. A node numbers its
-    /// samples upwards; where a number comes again, the newest sample of it counts.
+    /// samples upwards; if a number comes again, the newest sample of it counts.
     pub fn sample(&mut self, n: u32, u: i64)
         ensures { (ring : ℕ) → Adds (StandsFor ring) self.old self.new (CallSample n u) }
     {
@@ -93,9 +93,9 @@ impl Exchange {
         });
     }
 
-    /// Takes a Sync with its correctionField, the stamp of its reception and the tick at which it
-    /// was handed over. Answers whether it was kept: where a chain stands, and the stamp's sample is
-    /// at or after the chain's start and is still known. It then takes the place of an earlier one.
+    /// Takes a Sync with its correctionField, the stamp of its reception and the tick at which it was
+    /// handed over. Returns whether it was kept: it is if there is a chain, and the stamp's sample is at
+    /// or after the chain's start and is still known. It then takes the place of an earlier one.
     pub fn sync(&mut self, seq: u16, correction: i64, t2: Stamp, tick: u32) -> bool
         requires { unsigned_abs t2.value < 2 ^ 104 }
         ensures kept { (ring : ℕ) (calls : List Call) → StandsFor ring self.old calls →
@@ -121,8 +121,8 @@ impl Exchange {
         }
     }
 
-    /// Takes a Follow_Up: `precise` is its preciseOriginTimestamp with its own correctionField, in
-    /// tau. Answers whether it made the Sync pair: where the last kept Sync has its sequenceId, no
+    /// Takes a Follow_Up: `precise` is its preciseOriginTimestamp with its own correctionField, in tau.
+    /// Returns whether it made the Sync pair: it did if the last kept Sync has its sequenceId, no
     /// Follow_Up of that sequenceId came in between, and the Sync's sample is still known.
     pub fn follow_up(&mut self, seq: u16, precise: Tau) -> bool
         requires { unsigned_abs precise < 2 ^ 104 }
@@ -145,9 +145,9 @@ impl Exchange {
         self.delay.ask(self.first.map(|_| seq));
     }
 
-    /// Takes the stamp of a Delay_Req's sending and the tick at which it was told. Answers whether it
-    /// was kept: where it is of the last request, no sending of that was kept before, and the
-    /// stamp's sample is at or after the chain's start and is still known.
+    /// Takes the stamp of a Delay_Req's sending and the tick at which the sending was given. Returns
+    /// whether it was kept: it is if it belongs to the last request, no sending of that request was kept
+    /// before, and the stamp's sample is at or after the chain's start and is still known.
     pub fn req_sent(&mut self, seq: u16, t3: Stamp, tick: u32) -> bool
         requires { unsigned_abs t3.value < 2 ^ 104 }
         ensures kept { (ring : ℕ) (calls : List Call) → StandsFor ring self.old calls →
@@ -166,9 +166,9 @@ impl Exchange {
         self.delay.tell(seq, sent)
     }
 
-    /// Takes a Delay_Resp: `t4` is its receiveTimestamp less its correctionField, in tau. Answers
-    /// whether it made the delay pair: where it is of the last request, whose sending was kept, and
-    /// no Delay_Resp of that sequenceId came since that sending.
+    /// Takes a Delay_Resp: `t4` is its receiveTimestamp less its correctionField, in tau. Returns
+    /// whether it made the delay pair: it did if it belongs to the last request, whose sending was kept,
+    /// and no Delay_Resp of that sequenceId came since that sending.
     pub fn resp(&mut self, seq: u16, t4: Tau) -> bool
         requires { unsigned_abs t4 < 2 ^ 104 }
         ensures made { (ring : ℕ) (calls : List Call) → StandsFor ring self.old calls →
@@ -180,18 +180,18 @@ impl Exchange {
         self.delay.answer(seq, t4)
     }
 
-    /// The newest matched four; None exactly where one of the two pairs is missing since the chain's
+    /// The newest matched four; None if and only if one of the two pairs is missing since the chain's
     /// start.
     pub fn four(&self) -> Option<Four>
         ensures value { (ring : ℕ) (calls : List Call) → StandsFor ring self.now calls →
             result ≡ four_of ring calls }
         ensures times { IfSome result HasTimes }
 
-        // Its tick is one that was told.
+        // Its tick is one that was given.
         ensures told { (ring tick : ℕ) (calls : List Call) → StandsFor ring self.now calls →
             NoneAfter tick calls → IfSome result (λ four. four.tick ≤ tick) }
 
-        // As long as the ticks that are told do not fall, it is not older than any four before it.
+        // As long as the given ticks do not fall, it is not older than any four before it.
         ensures rises { (ring : ℕ) (since calls : List Call) →
             StandsFor ring self.now (since ++ calls) →
             TicksRise (since ++ calls) →
@@ -209,8 +209,8 @@ impl Exchange {
         self.delay = DelayHalf::new();
     }
 
-    // The phase at the sample that a stamp latched, in tau, where a chain stands, the sample is at
-    // or after its start, and the ring still has it.
+    // The phase at the sample that a stamp latched, in tau, if there is a chain, the sample is at or
+    // after its start, and the ring still has it.
     fn latched_phase(&self, sample: u32) -> Option<i64>
         ensures { result ≡ phase_since self.now.first self.now.ring.items sample }
     {

@@ -16,8 +16,7 @@ pub struct GoodSample {
 /// The last good samples, the newest in front.
 pub type SampleRing = HeapCircularBuffer<GoodSample>;
 
-/// The phase at the sample of this number, in tau. None where the ring does not have it, or has it no
-/// more.
+/// The phase at the sample of this number, in tau. None if the ring does not have it, or no longer has it.
 pub fn phase_of(ring: &SampleRing, number: u32) -> Option<i64>
     ensures { result ≡ phase_in ring.now.items number }
 {

@@ -69,8 +69,8 @@ impl SyncHalf {
         self.pending = Some(sync);
     }
 
-    /// Takes a Follow_Up: the pending Sync of its id is pending no more, and makes a pair where the
-    /// ring still has its sample. Answers whether a pair was made.
+    /// Takes a Follow_Up: the pending Sync of its id is no longer pending, and makes a pair if the ring
+    /// still has its sample. Returns whether a pair was made.
     pub fn follow_up(&mut self, seq: u16, precise: Tau, ring: &SampleRing) -> bool
         requires old { HasSyncTimes self.old }
         requires precise { unsigned_abs precise < 2 ^ 104 }

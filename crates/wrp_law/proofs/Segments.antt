@@ -12,7 +12,7 @@ use Rattle.wrp_law.specs.Table.{segment_value}
 use Rattle.wrp_law.specs.declared.delay.LawKind.TheVariants.{Linear}
 use Rattle.wrp_law.proofs.Between.{between}
 
--- a segment and a place on it, told in steps of natural numbers
+-- a segment and a place on it, given in steps of natural numbers
 record Steps (x1 y1 x2 y2 x : ℤ) : Type 0 where
   t : ℕ
   s : ℕ
@@ -60,14 +60,14 @@ rise-most (negsuc t) whole rise after before positive stays = omega (arith, ints
 rise-most (pos t) (negsuc d) rise after before positive stays = omega (arith, ints)
 rise-most (pos t) (pos d) (negsuc dy) after before positive stays = omega (arith, ints)
 
--- the value is at least that of the first point
+-- the value is at least the first point's
 from_by : (x1 y1 x2 y2 x : ℤ) (p : Steps x1 y1 x2 y2 x) → y1 ≤ℤ segment_value (x1, y1) (x2, y2) x
 from_by x1 y1 x2 y2 x p = rw (value_is x1 y1 x2 y2 x p) (omega (arith, ints))
 
 pub segment_value-from : (x1 y1 x2 y2 x : ℤ) → x1 <ℤ x2 → y1 ≤ℤ y2 → x1 ≤ℤ x → x ≤ℤ x2 → y1 ≤ℤ segment_value (x1, y1) (x2, y2) x
 segment_value-from x1 y1 x2 y2 x rises stays after before = from_by x1 y1 x2 y2 x (steps x1 y1 x2 y2 x rises stays after before)
 
--- and at most that of the second
+-- and at most the second point's
 to_by : (x1 y1 x2 y2 x : ℤ) (p : Steps x1 y1 x2 y2 x) → segment_value (x1, y1) (x2, y2) x ≤ℤ y2
 to_by x1 y1 x2 y2 x p =
     let most : p.t * p.dy / (p.t + p.s) ≤ p.dy = quotient-le p.t p.s p.dy p.positive in

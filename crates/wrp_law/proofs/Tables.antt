@@ -23,7 +23,7 @@ is_past x z test = grind (arith, ints)
 pub eased : (x z : ℤ) → x <ℤ z → x ≤ℤ z
 eased x z h = omega (arith, ints)
 
--- the value is at least that of the first point
+-- the value is at least the first point's
 table_value-from : (start : ℤ × ℤ) (points : List (ℤ × ℤ)) (x : ℤ) → Rises (start ∷ points) → start.0 ≤ℤ x → start.1 ≤ℤ table_value (start ∷ points) x
 table_value-from start [] x rises after = omega (arith, ints)
 table_value-from start (end ∷ points) x rises after =
@@ -69,7 +69,7 @@ table_value-never_falls (start ∷ points) x z rises first later last = never_fa
 pub wider : (m err a : ℕ) → a ≤ m * err → a ≤ m * (err + 1)
 wider m err a h = omega arith
 
--- where each point is within an error of the exact fraction, the value is within that and one more
+-- if each point is within an error of the exact fraction, the value is within that and one more
 pub at_last : (kappa : ℤ) (err : ℕ) (start : ℤ × ℤ) (x : ℤ) → start.0 ≤ℤ x → x ≤ℤ start.0 → IsNear (Linear kappa) err start.0 start.1 → IsNear (Linear kappa) (err + 1) x start.1
 at_last kappa err start x after before near =
     let same : start.0 ≡ x = omega (arith, ints) in
@@ -91,7 +91,7 @@ pub table_value-near : (kappa : ℤ) (err : ℕ) (points : List (ℤ × ℤ)) (x
 table_value-near kappa err [] x size least rises first last near = absurd (none least)
 table_value-near kappa err (start ∷ points) x size least rises first last near = near_from kappa err start points x size rises first last near
 
--- the x of the last point is where it stands
+-- the x of the last point is at its place
 pub last_x-at : (points : List (ℤ × ℤ)) → last_x points ≡ (get_or points (length points - 1) (pos 0, pos 0)).0
 last_x-at [] = refl
 last_x-at (point ∷ []) = refl

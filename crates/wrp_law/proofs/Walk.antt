@@ -20,7 +20,7 @@ begun (start ∷ points) x table on =
     let all : take (suc (length points) - 1) points ≡ points = take_all (suc (length points) - 1) points (omega arith) in
     subst (IsAhead (start ∷ points) x start) (sym all) (record { same = refl; rises = table.rises; fits = table.fits; after = on.first })
 
--- the next point stands at the head of those ahead
+-- the next point is the head of the points ahead
 pub next : (points : List (ℤ × ℤ)) (x : ℤ) (start : ℤ × ℤ) (items : List (ℤ × ℤ)) (i : ℕ) → i < length items → IsAhead points x start (drop i items) → IsAhead points x start (get_or items i (pos 0, pos 0) ∷ drop (i + 1) items)
 next points x start items i h ahead = rw (add-one i) (subst (IsAhead points x start) (drop-cons items i (pos 0, pos 0) h) ahead)
 

@@ -1,4 +1,4 @@
--- The law of a link, as the link database tells it: its range, its error and its answers (this project's
+-- The law of a link, as the link database gives it: its range, its error and its answers (this project's
 -- profile).
 use Rattle.std.specs.Prelude.{ℕ, ℤ, pos, neg_ℤ, ◌^◌, ◌+◌, ◌≤◌, unsigned_abs}
 use Rattle.wrp_law.specs.Law.{floor_at}
@@ -14,7 +14,7 @@ IsSound (Fraction kappa) = unsigned_abs kappa ≤ 2 ^ 38
 IsSound (Table kappa points err) =
     (unsigned_abs kappa ≤ 2 ^ 38) × (err ≤ 1_000_000_000) × IsTable points.now × IsWithin kappa err points.now
 
--- the exact fraction that the law stands for
+-- the exact fraction that the law represents
 abbrev pub kind_of : LinkLaw → LawKind
 kind_of (Fraction kappa) = Linear kappa
 kind_of (Table kappa points err) = Linear kappa

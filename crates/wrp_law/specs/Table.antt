@@ -45,7 +45,7 @@ abbrev pub segment_value : ℤ × ℤ → ℤ × ℤ → ℤ → ℤ
 segment_value start end x =
     start.1 +ℤ floor_quotient ((x -ℤ start.0) *ℤ (end.1 -ℤ start.1)) (end.0 -ℤ start.0)
 
--- the value at x: that of the first segment that has x
+-- the value at x: the value on the first segment that has x
 abbrev pub table_value : List (ℤ × ℤ) → ℤ → ℤ
 table_value [] x = pos 0
 table_value (point ∷ []) x = point.1

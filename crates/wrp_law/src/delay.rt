@@ -9,14 +9,14 @@ use std::marker::Model;
 pub enum LawKind {
     /// The way down takes `(2^39 + kappa) / 2^40` of both ways.
     Linear {
-        /// The asymmetry: 0 where both ways are equal.
+        /// The asymmetry: 0 if both ways are equal.
         kappa: i64,
     },
 }
 
-/// A delay law: a closure that answers the delay down, in tau, from the delay both ways, in tau, kept
-/// beside its kind, its range and its error. The fact about the closure is `KeepsFact`, which `new`
-/// and each call of the closure require (this project's profile).
+/// A delay law: a closure that gives the delay down, in tau, from the delay both ways, in tau, kept with
+/// its kind, its range and its error. The fact about the closure is `KeepsFact`, which `new` and each
+/// call of the closure require (this project's profile).
 #[derive(Drop)]
 pub struct DelayLaw<F> {
     closure: F,
@@ -35,8 +35,8 @@ impl<F> Model for DelayLaw<F> {
 }
 
 impl<F: Fn(i64) -> i64> DelayLaw<F> {
-    /// Keeps the closure `f`, which may be called from `lo` to `hi`, and answers there within `err` tau
-    /// of the exact fraction of its kind.
+    /// Keeps the closure `f`, which may be called from `lo` to `hi`, and there gives a result within
+    /// `err` tau of the exact fraction of its kind.
     pub fn new(f: F, kind: LawKind, lo: i64, hi: i64, err: u64) -> DelayLaw<F>
         requires { KeepsFact F.pre F.post (record { closure = f; kind = kind; lo = lo; hi = hi; err = err }) }
         ensures { result ≡ record { closure = f; kind = kind; lo = lo; hi = hi; err = err } }
@@ -83,7 +83,7 @@ impl<F: Fn(i64) -> i64> DelayLaw<F> {
         self.err
     }
 
-    /// Which exact fraction the law stands for.
+    /// Which exact fraction the law represents.
     pub fn kind(&self) -> LawKind
         ensures { result ≡ self.now.kind }
     {

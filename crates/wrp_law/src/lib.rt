@@ -1,7 +1,6 @@
 //! The delay law of a link: how much of the delay both ways the way down takes. A law is kept as a
-//! closure beside its range and its error, and the layers above know it by that alone. The closure
-//! answers the exact fraction rounded down, or the value of a table of points (this project's
-//! profile).
+//! closure with its range and its error, and the layers above know it by that alone. The closure gives
+//! the exact fraction rounded down, or the value of a table of points (this project's profile).
 #![tactic(auto)]
 
 mod delay;

@@ -1,5 +1,5 @@
-//! The law of one link, as the link database tells it: the one description from which a caller makes
-//! the closure of a `DelayLaw`, whichever form the law has.
+//! The law of one link, as the link database gives it: the one description from which a caller makes the
+//! closure of a `DelayLaw`, whichever form the law has.
 ghost use Rattle.std.specs.Prelude.{◌≡◌, ◌≤ℤ◌};
 ghost use Rattle.wrp_law.specs.Law.{IsNear};
 ghost use Rattle.wrp_law.specs.LinkLaw.{IsSound, kind_of, least_of, most_of, error_of, down_of};

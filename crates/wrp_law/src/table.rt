@@ -10,8 +10,8 @@ use wrp_base::{difference, floor_div, narrow, product, sum};
 /// The value at `x` of a table of points `(x, y)`, each in tau: `y1 + (x - x1) (y2 - y1) / (x2 - x1)`,
 /// the quotient rounded down, for the first segment of the table that has `x`. The table has 2 to 32
 /// points, its x rise from `-2^30` at the least to `2^53` at the most, and its y, within `2^53` on
-/// either side, never fall; `x` lies from its first point to its last. Where each point is within an
-/// error of the exact fraction, the value is within that and 1.
+/// either side, never fall; `x` lies from its first point to its last. If each point is within an error
+/// of the exact fraction, the value is within that and 1.
 pub fn on_table(points: &[(i64, i64)], x: i64) -> i64
     requires table { IsTable points.now }
     requires x { IsOnTable points.now x }

@@ -1,5 +1,6 @@
 //! Cases on a link in memory. Its calls are `start ENDS`, `send END OCTETS` and `receive END`, and their answers
-//! `started`, `sent`, `gave OCTETS`, `gave nothing` and `failed`. At the end is due what it tells, a call a line.
+//! `started`, `sent`, `gave OCTETS`, `gave nothing` and `failed`. At the end the calls that it reports are
+//! expected, a call a line.
 use crate::parts::push_line;
 use std::alloc::{AllocError, Global};
 use wrp_base::Frame;
@@ -72,7 +73,7 @@ fn text_of(frame: &Option<Frame>) -> &str {
     }
 }
 
-// Appends a call that the link tells.
+// Appends a call that the link reports.
 fn push_told(alloc: Global, out: &mut Vec<u8>, call: &LinkCall) -> Result<(), AllocError> {
     let told = match call {
         LinkCall::Start(ends) => format!(in alloc; "told start {ends}")?,
@@ -88,7 +89,7 @@ fn push_told(alloc: Global, out: &mut Vec<u8>, call: &LinkCall) -> Result<(), Al
     push_line(out, told.as_str())
 }
 
-/// What a link answers that takes so many calls, of which one fails.
+/// What a link that takes so many calls, of which one fails, answers.
 pub fn told_of_link(alloc: Global, takes: u32, bad: u32, calls: &str) -> Result<Vec<u8>, Fault> {
     let mut out = Vec::new(alloc);
     let mut link = MemLink::new(alloc, takes, vec![in alloc; bad]?)?;

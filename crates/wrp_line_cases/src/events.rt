@@ -1,5 +1,6 @@
-//! Cases on `read_event` and `event_line`: for each line behind `---` is due what happens, and then the line that
-//! this is printed as; or why it is refused. Nodes and links are told by their places in the network, from 0.
+//! Cases on `read_event` and `event_line`: for each line after `---`, what happens is expected, and then the line
+//! that this is printed as; or why it is refused. Nodes and links are named by their places in the network,
+//! counted from 0.
 ghost use Rattle.wrp_config.specs.Accepted.{IsAccepted};
 ghost use Rattle.wrp_course.specs.EventAt.{IsEventOf};
 
@@ -113,7 +114,7 @@ fn push_event(
     push_printed(out, &line)
 }
 
-// Appends what is told of a line.
+// Appends what is printed of a line.
 fn push_told(alloc: Global, out: &mut Vec<u8>, net: &Network, line: &str) -> Result<(), Fault>
     requires accepted { IsAccepted net.now.cfg net.now.db }
 {

@@ -1,6 +1,6 @@
-//! Cases on `read_input` and `input_line`: the lines behind `---` are said to the node that the first word names. For
-//! each is due what it says, and then the line that this is printed as; or why it is refused. Where the second word is
-//! `whole`, all that stands behind `---` is one line.
+//! Cases on `read_input` and `input_line`: the lines after `---` are said to the node that the first word names. For
+//! each, what it says is expected, and then the line that this is printed as; or why it is refused. If the second word
+//! is `whole`, everything after `---` is one line.
 ghost use Rattle.wrp_config.specs.Accepted.{IsAccepted};
 ghost use Rattle.wrp_trace.specs.InputAt.{IsInputAt};
 ghost use Rattle.wrp_trace.specs.LineSetting.{line_setting_of};
@@ -97,7 +97,7 @@ fn push_input(
     push_printed(out, &line)
 }
 
-// Appends what is told of a line.
+// Appends what is printed of a line.
 fn push_told(
     alloc: Global,
     out: &mut Vec<u8>,
@@ -113,7 +113,7 @@ fn push_told(
     }
 }
 
-// The name of the node, and whether all that stands behind `---` is one line.
+// The name of the node, and whether everything after `---` is one line.
 fn words_of(case: &Case) -> Result<(&str, bool), Fault> {
     match case.words.as_slice() {
         [name] => Ok((name.as_str(), false)),

@@ -16,7 +16,7 @@ mod words;
 use std::alloc::Global;
 use wrp_suite::{Answer, Case, Fault, Kinds};
 
-/// The calls that read and write lines, and those of the objects of the outside.
+/// The calls that read and write lines, and the calls of the objects of the outside.
 pub struct Lines;
 
 impl Kinds for Lines {

@@ -1,5 +1,5 @@
 //! Cases on the objects of the outside. The words say which object it is, what it holds or has room for, and which of
-//! its calls fails, 0 for none. Each line is a call, and its answer is due, and at the end what the object then tells.
+//! its calls fails, 0 for none. Each line is a call; its answer is expected, and what the object reports at the end.
 //!
 //!     source OCTETS N, sink ROOM N, link CALLS N     the objects in memory; `carrying` has the calls of a link
 //!     bytes OCTETS, vec                              the adapters over octets, and over a vector
@@ -16,7 +16,7 @@ use wrp_suite::{Answer, Case, Fault};
 // The most octets of a read.
 const MOST: usize = 16;
 
-// Appends a word, a number, and octets where there are some.
+// Appends a word, a number, and octets if there are some.
 fn push_octets(
     alloc: Global,
     out: &mut Vec<u8>,

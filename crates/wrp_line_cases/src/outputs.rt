@@ -1,9 +1,9 @@
-//! Cases on the lines that a run writes: each line behind `---` is something of the node that the word names, and the
-//! line that is written of it is due.
+//! Cases on the lines that a run writes: each line after `---` is something of the node that the word names, and the
+//! line that is written of it is expected.
 //!
 //!     TICK send PORT HEX, TICK step CYCLES, TICK dac VALUE         what it puts out at a tick
 //!     TICK link PORT WORD, TICK servo STATE, TICK track EST        what it reports at a tick
-//!     TICK .. true OFF                                             the same, where the true offset is known
+//!     TICK .. true OFF                                             the same, if the true offset is known
 //!     count PORT REASON VALUE                                      a counter; the reason is a number
 //!     sum TICKS TRACKS WORST BOUND STATE                           what sums up its run
 ghost use Rattle.std.specs.Prelude.{◌<◌};
@@ -63,7 +63,7 @@ fn output_of(alloc: Global, words: &[&str]) -> Result<Output, Fault> {
     }
 }
 
-// An output, and the true offset where it is known.
+// An output, and the true offset if it is known.
 fn split_truth(said: &str) -> Result<(&str, Option<Tau>), Fault> {
     match said.split_once(" true ") {
         Some((said, truth)) => Ok((said, Some(truth.parse::<Tau>().ok().ok_or(Fault::Input)?))),

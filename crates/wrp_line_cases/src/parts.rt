@@ -8,7 +8,7 @@ use wrp_config::Network;
 use wrp_network_text::ReadNetwork;
 use wrp_suite::Fault;
 
-/// The network text of an input, and what stands behind its line `---`.
+/// The network text of an input, and what follows its line `---`.
 pub fn halves(input: &[u8]) -> Result<(&str, &str), Fault> {
     let Ok(text) = str::from_utf8(input) else {
         return Err(Fault::Input);

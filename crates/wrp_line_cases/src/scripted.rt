@@ -4,8 +4,9 @@ ghost use Rattle.std.specs.Prelude.{◌≤◌, IfOk};
 use std::io;
 use std::io::{Read, Write};
 
-/// A reader and a writer that does its steps, one a call, and counts its flushes. A step is a letter: a digit gives
-/// or takes so many octets, `e` fails, and `f` gives or takes all and fails when it flushes; behind the last it fails.
+/// A reader and a writer that does its steps, one for each call, and counts its flushes. A step is a letter: a digit
+/// gives or takes so many octets, `e` fails, and `f` gives or takes all and fails when it flushes; after the last step
+/// it fails.
 #[derive(Drop)]
 pub struct Scripted<'a> {
     steps: &'a [u8],

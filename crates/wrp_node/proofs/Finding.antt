@@ -42,7 +42,7 @@ found P p (x ∷ xs) h e =
     found_in P p x xs (x.number == p) refl h.0
     (λ no. found P p xs h.1 (among_rest (x.number == p) (is_among p xs) e no))
 
--- ---- what the slave port tells
+-- ---- what the slave port reports
 
 nat_left : (lease : ℕ) (turns : Option ℕ) → nat_lt 0 (left_of lease turns) ≡ fresh_within lease turns
 nat_left lease None = refl
@@ -79,7 +79,7 @@ transition_told fixed before s parts p h e =
     ∙ ap (λ (l : Rest). transition_of l.link.own_module % steps_of_period) (line_is fixed s.node f.place f.holds.stands)
     ∙ ap (λ (q : ℕ). transition_of (link_at fixed.set s.node q).own_module % steps_of_period) f.number
 
--- ---- what a port tells between inputs
+-- ---- what a port reports between inputs
 
 pub word_told : (fixed : NodeSetting) (n : NodeAt) (parts : Parts) (p : ℕ) → PartsAt fixed n parts → is_among p parts.ports ≡ true → word_in (place_of p parts.ports) ≡ word_of (link_at fixed.set n p)
 word_told fixed n parts p h e =
@@ -96,7 +96,7 @@ times_told fixed n parts p reason h e =
     ∙ ap (λ (cs : List ℕ). count_at cs reason) f.holds.counters
     ∙ ap (λ (q : ℕ). count_at (n.counters q) reason) f.number
 
--- a port is found exactly where its number is among them
+-- a port is found if and only if its number is among them
 some_where : (p : ℕ) (x : PortPlace) (xs : List PortPlace) (b : Bool) → (x.number == p) ≡ b → is_some (place_of p xs) ≡ is_among p xs → is_some (place_of p (x ∷ xs)) ≡ is_among p (x ∷ xs)
 some_where p x xs true e rest = rw e refl
 some_where p x xs false e rest = rw e rest

@@ -1,4 +1,4 @@
--- Some ports are told an input: each that is stands for one input more.
+-- Some ports are given an input: each of these then stands for one more input.
 use Rattle.std.proofs.Common.{◌≡◌, ◌∙◌, refl, ap, ap₂, sym, subst, ℕ, pos, ◌==◌, Bool, true, false, if◌then◌else◌, IfSome, List, [], ◌∷◌, map, None, Some}
 use Rattle.std.specs.List.{AllByRecursion, AllZip, list_any}
 use Rattle.wrp_base.specs.declared.message.PtpMsg.{PtpMsg}
@@ -21,7 +21,7 @@ use Rattle.wrp_port.specs.History.{rest_after, calls_of}
 use Rattle.wrp_port.specs.Outputs.{sends_of, drop_of}
 use Rattle.wrp_port.specs.PortAt.{IsFit, StandsFor as PortStandsFor}
 
--- ---- two moments at which each port was told and counted the same
+-- ---- two moments at which each port was given and counted the same
 
 pub record SameAt (s t : Step) : Type 0 where
   pub told : (q : ℕ) → s.node.told q ≡ t.node.told q
@@ -53,13 +53,13 @@ parts_same fixed before s t parts e ticks cycles dac h = record {
   dac = h.dac ∙ dac;
 }
 
--- ---- one port that is told an input
+-- ---- one port that is given an input
 
 sound_newest : (xs ys : List PtpMsg) → AllSound xs → AllSound ys → AllSound (newest_sends xs ys)
 sound_newest [] ys h k = k
 sound_newest (x ∷ xs) ys h k = h
 
--- the line and the pieces of a port are those of the node
+-- the line and the pieces of a port are the line and the pieces that the node has for it
 pub line_is : (fixed : NodeSetting) (n : NodeAt) (place : PortPlace) → PlaceStands fixed n place → place.port.line ≡ line_at fixed.set n place.number
 line_is fixed n place h = h.told.line ∙ ap (λ (x : Setting). rest_after x (n.told place.number)) h.set
 
@@ -121,7 +121,7 @@ places_given fixed before s to input xs ys fit z h =
     zip_all (GivesTo to input) (PlaceIn fixed before s) (PlaceIn fixed before (given to input fixed s)) xs ys
     (λ x y g k. given_where fixed before s to input x y (is_to to x.number) fit refl g k) z h
 
--- the ports were told, and nothing else changed
+-- the ports were given it, and nothing else changed
 pub parts_given : (fixed : NodeSetting) (before : NodeAt) (s : Step) (to : To) (input : PortIn) (old : Parts) (ys : List PortPlace) → IsFit input → AllZip (GivesTo to input) old.ports ys →
     PartsIn fixed before s old → PartsIn fixed before (given to input fixed s) (record old { ports = ys })
 parts_given fixed before s to input old ys fit z h =

@@ -1,4 +1,4 @@
--- The port of a number stands at one place: what is done there is done to it, and to no other.
+-- The port of a number is at one place: what is done there is done to it, and to no other.
 use Rattle.std.proofs.Common.{◌≡◌, ◌≢◌, ◌∙◌, refl, ap, sym, subst, ℕ, suc, zero, ◌<◌, ◌==◌, Bool, true, false, if◌then◌else◌, List, [], ◌∷◌, length, slice_index, slice_index_or, slice_set, Option, None, Some, is_some, arith}
 use Rattle.std.proofs.lemmas.List.{length-map, get_or-map}
 use Rattle.std.specs.List.{AllByRecursion, AllZip, list_any}
@@ -52,7 +52,7 @@ done_there R p (suc i) (x ∷ xs) d y s h n a r =
     let other : p ≢ x.number = subst (λ (k : ℕ). k ≢ x.number) n (number_at (λ q. q ≢ x.number) xs i d (omega arith) a.0) in
     (s x (eq_not x.number p (λ e. other (sym e))), done_there R p i xs d y s (omega arith) n a.1 r)
 
--- where no port has the number, all stay
+-- if no port has the number, all stay
 pub done_nowhere : (R : PortPlace → PortPlace → Type 0) (p : ℕ) (xs : List PortPlace) → ((x : PortPlace) → (x.number == p) ≡ false → R x x) → list_any (λ q. q == p) (numbers_in xs) ≡ false → AllZip R xs xs
 done_nowhere R p [] s e = tt
 done_nowhere R p (x ∷ xs) s e =

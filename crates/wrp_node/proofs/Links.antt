@@ -46,7 +46,7 @@ before_ports fixed n p =
     ∙ tell_link fixed (lease_change fixed (counted_tick fixed n)) (step_from (counted_tick fixed n)) p
     ∙ lease_link (slave_of fixed.set) (setting_of fixed.set p) n.told p
 
--- one port is told something
+-- one port is given an input
 given_where : (b : Bool) (set : Setting) (told : List PortIn) (input : PortIn) (news : LinkNews) → (b ≡ true → link_of set (input ∷ told) ≡ link_after set (link_of set told) news) →
     link_of set (if b then input ∷ told else told) ≡ link_after set (link_of set told) (if b then news else Nothing)
 given_where true set told input news h = h refl

@@ -4,7 +4,7 @@ use Rattle.std.proofs.lemmas.List.{take_all}
 use Rattle.std.specs.List.{AllByRecursion, AllZip}
 use Rattle.wrp_base.proofs.Lists.{append_assoc, head_and_tail}
 
--- a loop has come to the element i: those before are related to what they were, the others are as they were
+-- a loop has come to the element i: the elements before it are related to what they were, the others are as they were
 abbrev pub Done : {A : Type 0} → (A → A → Type 0) → List A → List A → ℕ → Type 0
 Done R xs ys i = AllZip R (take i xs) (take i ys) × (drop i ys ≡ drop i xs)
 
@@ -71,7 +71,7 @@ pushed_more f xs i d o h =
     let next : suc i ≡ i + 1 = omega arith in
     append_assoc o (map f (take i xs)) (f (slice_index_or xs i d) ∷ []) ∙ ap (λ rest. o ++ rest) (sym (map_more f xs i d h)) ∙ ap (λ k. o ++ map f (take k xs)) next
 
--- what holds of those that a loop has come to holds of one more
+-- what holds of the elements that a loop has come to holds of one more
 all_next : {A : Type 0} (P : A → Type 0) (xs : List A) (i : ℕ) (d : A) → i < length xs → P (slice_index_or xs i d) → AllByRecursion P (take i xs) → AllByRecursion P (take (suc i) xs)
 all_next P [] i d h k w = absurd (omega arith)
 all_next P (x ∷ xs) zero d h k w = (k, tt)

@@ -1,4 +1,4 @@
--- A node's servo is told something, and what it answers goes to the slave port.
+-- A node's servo is given a call, and what it answers goes to the slave port.
 use Rattle.std.proofs.Common.{◌≡◌, ◌∙◌, refl, ap, ap₂, sym, subst, ℕ, ℤ, ◌==◌, Bool, true, false, if◌then◌else◌, ◌&&◌, ◌%◌, List, [], ◌∷◌, ◌++◌, map, flat_map, Option, None, Some, is_some, Ok}
 use Rattle.std.specs.List.{AllByRecursion}
 use Rattle.std.proofs.lemmas.Option.{none-some}
@@ -106,7 +106,7 @@ inside_in {post} {fixed} {before} {s} e h = subst (λ x. IsIn post fixed before 
 pub inside_at : {F : Type 0} {post : F → ℤ → ℤ → Type 0} {fixed : NodeSetting} {n : NodeAt} {v w : NodeOf F} → v ≡ w → IsAt post fixed n w → IsAt post fixed n v
 inside_at {post} {fixed} {n} e h = subst (λ x. IsAt post fixed n x) (sym e) h
 
--- where nothing is told, nothing changes
+-- if nothing is given, nothing changes
 same_call : (b : Bool) (o : Option Call) → (if b then o else o) ≡ o
 same_call true o = refl
 same_call false o = refl
@@ -165,7 +165,7 @@ message_none {post} fixed n p m raw sample y new control report a k r =
       report = r;
     })
 
--- ---- what the servo's part tells
+-- ---- what the servo's part reports
 
 state_by : {F : Type 0} (post : F → ℤ → ℤ → Type 0) (fixed : NodeSetting) (n : NodeAt) (t : Option (ToldServo F)) → ServoIs post fixed n.calls t → state_in t ≡ state_of fixed n
 state_by post fixed n None h = sym (ap (λ (b : Bool). if b then (servo_at fixed n).state else Uninit) h)
@@ -262,7 +262,7 @@ in_at fixed before s node h = record {
   report = h.report;
 }
 
--- ---- one port, or every port, is told something that it never counts
+-- ---- one port, or every port, is given an input that it never counts
 
 pub sent_told : (fixed : NodeSetting) (n : NodeAt) (p seq : ℕ) (delay : Bool) (stamp : Stamp) (tick : ℕ) (parts : Parts) → tick ≡ n.ticks →
     PartsIn fixed n (given (One p) (PortSent delay seq stamp tick) fixed (step_from n)) parts → PartsIn fixed n (handed fixed p (PortSent delay seq stamp n.ticks) n) parts

@@ -1,4 +1,4 @@
--- What a servo was told last it need not be told again.
+-- What a servo was last given it need not be given again.
 use Rattle.std.proofs.Common.{◌≡◌, ◌∙◌, refl, ap, sym, subst, ℤ, Bool, true, false, if◌then◌else◌, List, Option, None, Some, is_some}
 use Rattle.wrp_base.specs.declared.link.Deltas.{Deltas}
 use Rattle.wrp_node.specs.Control.{ToldServo, ControlOf, ToldStands, ServoIs, HasNothing, lease_call, link_call}
@@ -18,7 +18,7 @@ none_where fixed told now call e =
     ap (λ (b : Bool). for_slave fixed (if b then Some call else None)) (subst (λ (x : Bool). is_changed told x ≡ false) e (unchanged told))
     ∙ either_same (is_some (slave_of fixed.set)) None
 
--- where there is a servo, and it was told the same
+-- if there is a servo, and it was given the same
 pub same_lease : {F : Type 0} {post : F → ℤ → ℤ → Type 0} (told : ToldServo F) (control : ControlOf F) (fresh : Bool) → control.told ≡ Some told → told.lease ≡ fresh →
     HasNothing post control (lease_call fresh)
 same_lease {F} {post} told control fresh is same fixed calls h =
@@ -33,7 +33,7 @@ same_link {F} {post} told control on is same fixed calls h =
     subst (λ (o : Option (ToldServo F)). ServoIs post fixed calls o) is h.servo in
     none_where fixed (is_some (link_told calls)) (is_some on) (CallLink on) (sym stands.1.link ∙ same)
 
--- where there is none
+-- if there is none
 pub no_servo : {F : Type 0} {post : F → ℤ → ℤ → Type 0} (control : ControlOf F) (call : List Call → Option Call) → control.told ≡ None → HasNothing post control call
 no_servo {F} {post} control call is fixed calls h =
     let none : is_some (slave_of fixed.set) ≡ false = subst (λ (o : Option (ToldServo F)). ServoIs post fixed calls o) is h.servo in

@@ -1,4 +1,4 @@
--- The same inputs give the same node, but for answers of the law that nobody asked for, and the same outputs.
+-- The same inputs give the same node, except for answers of the law that nobody asked for, and the same outputs.
 use Rattle.std.proofs.Common.{◌≡◌, ◌∙◌, refl, ap, ap₂, sym, subst, ℕ, ℤ, pos, Bool, true, false, cond, ◌==◌, ◌%◌, ◌&&◌, if◌then◌else◌, IsTrue, List, [], ◌∷◌, ◌++◌, flat_map, Option, None, Some, is_some, Result, Ok, Err, arith}
 use Rattle.wrp_base.specs.declared.link.Deltas.{Deltas}
 use Rattle.wrp_base.specs.declared.measurement.Four.{Four}
@@ -52,9 +52,9 @@ same_link : ToldLast → (fixed : NodeSetting) (calls others : List Call) → Sa
 same_link last fixed calls others h =
     sym (last (servo_setting_of fixed) calls).link ∙ ap (λ (v : Core). v.signals.link) h ∙ (last (servo_setting_of fixed) others).link
 
--- ---- what is told to both
+-- ---- what both are given
 
--- the two servos are told the same, as far as it counts
+-- the two servos are given the same call, as far as it counts
 record SameCall (fixed : NodeSetting) (calls others : List Call) (call other : Option Call) : Type 0 where
   number : number_of call ≡ number_of other
   answer : answer_of fixed call calls ≡ answer_of fixed other others
@@ -68,7 +68,7 @@ one_call fixed calls others (Some c) h = record {
   servo = ap (λ (v : Core). after (servo_setting_of fixed) v c) h;
 }
 
--- a measurement: where the law is not asked, its answer is of no account
+-- a measurement: if the law is not asked, its answer has no effect
 cond_same : {A : Type 0} (b : Bool) (g : ℤ → A) (z : A) (y w : ℤ) → (IsTrue b → y ≡ w) → cond b (g y) z ≡ cond b (g w) z
 cond_same true g z y w h = ap g (h (grind arith))
 cond_same false g z y w h = refl
@@ -144,14 +144,14 @@ tell_same fixed r calls call other h = record {
   servo = h.servo;
 }
 
--- every port is told an input
+-- every port is given an input
 abbrev ports_by : NodeSetting → PortIn → Step → Step
 ports_by fixed input s = record s {
   node = record s.node { told = told_all s.node.told input };
   sends = λ p. sends_of (setting_of fixed.set p) (line_at fixed.set s.node p) input;
 }
 
--- what changed of lease and link is told to both alike
+-- both are given the same changes of the lease and the link
 lease_same : ToldLast → (fixed : NodeSetting) (r s : Step) → SameStep fixed r s → SameStep fixed (with_lease fixed r) (with_lease fixed s)
 lease_same last fixed r s h =
     let same : lease_change fixed (with_calls h.calls r.node) ≡ lease_change fixed r.node =
@@ -173,7 +173,7 @@ link_same last fixed r s h =
 settled_same : ToldLast → (fixed : NodeSetting) (r s : Step) → SameStep fixed r s → SameStep fixed (settled fixed r) (settled fixed s)
 settled_same last fixed r s h = link_same last fixed (with_lease fixed r) (with_lease fixed s) (lease_same last fixed r s h)
 
--- the same call is told to both
+-- both are given the same call
 told_same : (fixed : NodeSetting) (call : Option Call) (r s : Step) → SameStep fixed r s → SameStep fixed (tell fixed call r) (tell fixed call s)
 told_same fixed call r s h =
     subst (λ (z : Step). SameStep fixed (tell fixed call r) (tell fixed call z)) (sym h.is)
@@ -246,7 +246,7 @@ stepped_same last law fixed Reset says others y w n calls h s t a b =
 
 -- ---- a whole input, and the whole list
 
--- what was answered before a call was told
+-- what was answered before a call was given
 answered_before : (answers : ℤ → ℤ → Type 0) (x : ServoSetting) (call : Option Call) (calls : List Call) → AllAnswered answers x (called call calls) → AllAnswered answers x calls
 answered_before answers x None calls a = a
 answered_before answers x (Some (CallSample n base bits)) calls a = a
@@ -257,7 +257,7 @@ answered_before answers x (Some (CallLink on)) calls a = a
 answered_before answers x (Some (CallCarrier up)) calls a = a
 answered_before answers x (Some CallReset) calls a = a
 
--- before the servo was told of what changed
+-- before the servo was given what changed
 before_settled : (law : ℤ → ℤ) (fixed : NodeSetting) (s : Step) → Answered law fixed (settled fixed s) → Answered law fixed s
 before_settled law fixed s a =
     let leased : Answered law fixed (with_lease fixed s) =

@@ -1,4 +1,5 @@
--- The ports of a node of a network: they are of different numbers, so at most 18, and one is a slave where a link is above the node.
+-- The ports of a node of a network: they are of different numbers, so at most 18, and one is a slave if there is a link
+-- above the node.
 use Rattle.std.proofs.Common.{◌≡◌, ◌≢◌, ◌∙◌, refl, ap, ap₂, sym, subst, ℕ, suc, ◌<◌, ◌≤◌, ◌==◌, ◌||◌, Bool, true, false, if◌then◌else◌, List, [], ◌∷◌, ◌++◌, map, length, Option, Some, option_map, slice_get, arith}
 use Rattle.std.proofs.lemmas.Bool.{eqb-true, false_from_ne_true}
 use Rattle.std.proofs.lemmas.Map.Steps.{length-le_from_distinct_below}
@@ -23,7 +24,7 @@ numbers_at n (end ∷ ends) = if end.node == n then end.port ∷ numbers_at n en
 abbrev pub numbers_in : List PortDs → List ℕ
 numbers_in ports = map (λ (ds : PortDs). ds.own.port) ports
 
--- a number in front, where it is one
+-- a number in front, if it is one
 abbrev pub with_number : Bool → ℕ → List ℕ → List ℕ
 with_number b p ns = if b then p ∷ ns else ns
 
@@ -83,7 +84,7 @@ away-where : (n p : ℕ) (end : End) (ns : List ℕ) (b : Bool) → (end.node ==
 away-where n p end ns true is other rest = (other (eqb-true end.node n is), rest)
 away-where n p end ns false is other rest = rest
 
--- where none of the ends is this port of the node
+-- if none of the ends is this port of the node
 pub away : (n p : ℕ) (ends : List End) → ((k : ℕ) → slice_get ends k ≢ Some (end_with n p)) → AllByRecursion (λ q. q ≢ p) (numbers_at n ends)
 away n p [] none = tt
 away n p (end ∷ ends) none =
@@ -168,7 +169,7 @@ few_ports net n ranges once =
     let same : length (numbers_in (ports_of net n)) ≡ length (ports_of net n) = length_map (λ (ds : PortDs). ds.own.port) (ports_of net n) in
     omega (arith, most, same)
 
--- ---- the slave port is that of the link above
+-- ---- the slave port is the port of the link above
 
 slave-link : (net : NetCfg) (link : LinkCfg) (rest : List PortDs) (above : Option LinkCfg) (a b : Bool) → slave_in rest ≡ option_map (λ (l : LinkCfg). l.lower_port) above →
     slave_in (((if a then master_at net link ∷ [] else []) ++ (if b then slave_at net link ∷ [] else [])) ++ rest)
@@ -197,7 +198,7 @@ once-where : {X : Type 0} (p : X → Bool) (x : X) (xs : List X) (b : Bool) → 
 once-where p x xs true is others rest = let none : length (filter p xs) ≡ 0 = nothing_passes p xs (others is) in omega (arith, none)
 once-where p x xs false is others rest = rest
 
--- where no two places pass
+-- if no two places pass
 once : {X : Type 0} (p : X → Bool) (xs : List X) → ((i j : ℕ) (x y : X) → slice_get xs i ≡ Some x → slice_get xs j ≡ Some y → p x ≡ true → p y ≡ true → i ≡ j) → length (filter p xs) ≤ 1
 once p [] same = omega arith
 once p (x ∷ xs) same =

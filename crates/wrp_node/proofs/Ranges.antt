@@ -14,7 +14,7 @@ read_between least greatest z range small =
     let fits : FitsSigned w64 z = omega (arith, ints) in
     ap unsigned_abs (to_z-of_z w64 z fits)
 
--- and so where it is read into a wider number
+-- and so if it is read into a wider number
 pub read_wide : (least greatest : ℕ) (z wide : ℤ) → IsFromTo least greatest z → greatest < 2 ^ 62 → wide ≡ to_z w64 (of_z w64 z) → to_z w128 (of_z w128 wide) ≡ z
 read_wide least greatest z wide range small is =
     let fits : FitsSigned w64 z = omega (arith, ints) in

@@ -1,4 +1,5 @@
--- What a step sends: the Signaling messages of a port are those of its link, and the frames that are put out are those that the ports send.
+-- What a step sends: the Signaling messages of a port are the ones that its link sends, and the frames that are put out
+-- are the ones that the ports send.
 use Rattle.std.proofs.Common.{◌≡◌, ◌≢◌, ◌∙◌, refl, ap, ap₂, sym, ℕ, suc, zero, ℤ, ◌==◌, Bool, true, false, if◌then◌else◌, ◌&&◌, ◌||◌, ◌%◌, unsigned_abs, List, [], ◌∷◌, ◌++◌, map, flat_map, Option, None, Some, Result, Ok, Err, arith}
 use Rattle.std.proofs.lemmas.Bool.{eqb-true}
 use Rattle.std.proofs.lemmas.List.{append-nil}
@@ -92,7 +93,7 @@ next_before_ports fixed n p =
     ∙ tell_next fixed (lease_change fixed (counted_tick fixed n)) (step_from (counted_tick fixed n)) p
     ∙ lease_next (slave_of fixed.set) (setting_of fixed.set p) n.told p
 
--- ---- the Signaling messages among those that are sent
+-- ---- the Signaling messages among the messages that are sent
 
 append_where : (b : Bool) (m : PtpMsg) (xs ys zs : List PtpMsg) → zs ≡ xs ++ ys → (if b then m ∷ zs else zs) ≡ (if b then m ∷ xs else xs) ++ ys
 append_where true m xs ys zs e = ap (λ (rest : List PtpMsg). m ∷ rest) e
@@ -140,7 +141,7 @@ unless_sent set line m stamp (Some reason) = refl
 
 -- ---- each input
 
--- only one port sends, and only its link is told something
+-- only one port sends, and only its link is given something
 at_port : (fixed : NodeSetting) (n : NodeAt) (p q : ℕ) (sends : List PtpMsg) (news : LinkNews) (b : Bool) → (q == p) ≡ b → signals_in sends ≡ signals_at fixed n p news →
     signals_in (if b then sends else []) ≡ signals_at fixed n q (if b then news else Nothing)
 at_port fixed n p q sends news true e h = h ∙ ap (λ (k : ℕ). signals_at fixed n k news) (sym (eqb-true q p e))
@@ -169,7 +170,7 @@ heard_signals fixed n p q (Err fault) raw sample y = nothing_where fixed n q (q 
 heard_signals fixed n p q (Ok m) raw sample y =
     unless_signals fixed n p q m (stamp_of fixed n p raw sample) y (early_reason (setting_of fixed.set p) (link_at fixed.set n p) m) refl
 
--- the sending of a frame is told: a Follow_Up, or nothing
+-- the port is given the sending of a frame: a Follow_Up, or nothing
 sent_none : (set : Setting) (line : Rest) (delay : Bool) (seq : ℕ) (stamp : Stamp) (tick : ℕ) → signals_in (sends_of set line (PortSent delay seq stamp tick)) ≡ []
 sent_none set line true seq stamp tick = refl
 sent_none set line false seq stamp tick = due_none (is_newest line.ids.newest_sync seq && is_open line.link) (follow_up_of set seq stamp) refl

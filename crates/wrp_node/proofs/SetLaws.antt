@@ -13,7 +13,7 @@ use Rattle.wrp_node.proofs.Lists.{all_of}
 use Rattle.wrp_node.proofs.NewNode.{all_found}
 use Rattle.wrp_node.proofs.OwnPorts.{different_numbers}
 
--- ---- what holds of each element of a list holds of those of its parts
+-- ---- what holds of each element of a list holds of each element of its parts
 
 all_parts : {X : Type 0} (P : X → Type 0) (xs ys : List X) → AllByRecursion P (xs ++ ys) → AllByRecursion P xs × AllByRecursion P ys
 all_parts P [] ys h = (tt, h)

@@ -65,7 +65,7 @@ deltas_by fixed call s (Some p) =
 pub tell_deltas : (fixed : NodeSetting) (call : Option Call) (s : Step) → deltas_in fixed.set (tell fixed call s).node ≡ deltas_in fixed.set s.node
 tell_deltas fixed call s = deltas_by fixed call s (slave_of fixed.set)
 
--- ---- what was told is known
+-- ---- the servo knows what it was given
 
 abbrev where_told : Bool → Bool → Call → Option Call
 where_told has changes call = if has then (if changes then Some call else None) else None

@@ -1,4 +1,4 @@
--- What the ports of a node send is spelled by its octets; and which numbers are those of its ports.
+-- What the ports of a node send is spelled by its octets; and which numbers its ports have.
 use Rattle.std.proofs.Common.{◌≡◌, ◌∙◌, refl, ap, subst, ℕ, ◌==◌, ◌||◌, Bool, true, List, [], ◌∷◌, map}
 use Rattle.std.specs.List.{AllByRecursion, list_any}
 use Rattle.wrp_data.specs.declared.datasets.PortDs.{PortDs}
@@ -18,7 +18,7 @@ has_mapped : (p : ℕ) (ports : List PortDs) → has_number p ports ≡ list_any
 has_mapped p [] = refl
 has_mapped p (ds ∷ ports) = ap (λ (c : Bool). (ds.own.port == p) || c) (has_mapped p ports)
 
--- a number among those of the ports, in their order, is one of the node's
+-- a number among those of the ports, in their order, is the number of one of the node's ports
 pub number_is_port : (fixed : NodeSetting) (p : ℕ) → list_any (λ (q : ℕ). q == p) (numbers_of fixed.set) ≡ is_own_port fixed p
 number_is_port fixed p = has_ordered p fixed.set.ports.items ∙ has_mapped p fixed.set.ports.items
 

@@ -1,4 +1,4 @@
--- A whole input, from one stand between inputs to the next.
+-- A whole input, from one state between inputs to the next.
 use Rattle.std.proofs.Common.{◌≡◌, ◌∙◌, ap, sym, subst, ℕ, ℤ, ◌+◌, ◌<◌, ◌≤◌, ◌^◌, Option, None, Some, IfSome, List, Result}
 use Rattle.wrp_node.specs.Control.{ToldServo, ControlOf, ServoIs, HasTick, state_in}
 use Rattle.wrp_node.specs.declared.interface.Input.{Input}
@@ -39,7 +39,7 @@ tick_for fixed inputs old node (Sent p seq delay stamp) last h e k = tt
 tick_for fixed inputs old node (Carrier p up own_module) last h e k = tt
 tick_for fixed inputs old node Reset last h e k = tt
 
--- from one stand to the next: the parts begin, the input is taken, and the servo is told of what changed
+-- from one state between inputs to the next: the parts begin, the input is taken, and the servo is given what changed
 pub came : {F : Type 0} {post : F → ℤ → ℤ → Type 0} {old taken leased linked : NodeOf F} {first begun : Parts} {control : ControlOf F} {report : ℕ} (input : Input) (says : Result PtpMsg FrameFault) (answer : ℤ) →
     record { parts = first; control = control; report = report } ≡ old → Begun first begun →
     NodeTakes post (λ fixed n. stepped fixed input says answer n) (record { parts = begun; control = control; report = report }) taken →
@@ -52,7 +52,7 @@ came input says answer view begins takes lease link fixed inputs st =
     (lease fixed (node_after fixed inputs) (stepped fixed input says answer (node_after fixed inputs))
     (takes fixed (node_after fixed inputs) (record { parts = begins fixed (node_after fixed inputs) here.parts; control = here.control; report = here.report })))
 
--- the state before the input is that of the run
+-- the state before the input is the state in the run
 pub state_before : {F : Type 0} {post : F → ℤ → ℤ → Type 0} {old : NodeOf F} {first : Parts} {control : ControlOf F} {report : ℕ} →
     record { parts = first; control = control; report = report } ≡ old → (fixed : NodeSetting) (inputs : List Taken) → StandsFor post fixed old inputs → state_in control.told ≡ state_of fixed (node_after fixed inputs)
 state_before {control} view fixed inputs st =

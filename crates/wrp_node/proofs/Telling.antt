@@ -77,7 +77,7 @@ answered fixed before s call number out parts e n h =
       sends = λ q. refl;
     }) refl (ap (λ (o : ServoOut). newest_step o.cycles s.cycles) e) (ap (λ (o : ServoOut). option_or o.dac s.dac) e) h
 
--- where nothing is told, nothing changes
+-- if nothing is given, nothing changes
 pub told_none : (o : Option ℕ) (number : ℕ) (told : ℕ → List PortIn) (q : ℕ) → told q ≡ told_by o no_answer number told q
 told_none None number told q = refl
 told_none (Some p) number told q = sym (either_same (q == p) (told q))

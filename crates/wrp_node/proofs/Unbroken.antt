@@ -1,4 +1,5 @@
--- Between the inputs of a node a chain stands since a start after which nothing restarted the loop: a carrier that comes where one stood takes the link, and with it the chain.
+-- Between the inputs of a node, a chain has lasted since a start after which nothing restarted the loop: a carrier that
+-- comes while there is one ends the link, and with it the chain.
 use Rattle.std.proofs.Common.{◌≡◌, ◌∙◌, refl, ap, sym, ℕ, ℤ, ◌==◌, Bool, true, false, cond, not, ◌&&◌, ◌||◌, if◌then◌else◌, is_some, List, [], ◌∷◌, ◌++◌, ◌⊎◌, inl, inr, Option, None, Some, Result, Ok, Err}
 use Rattle.std.proofs.lemmas.Bool.{eqb-true, and_parts, or_from}
 use Rattle.std.specs.Prelude.{int_le}
@@ -97,14 +98,14 @@ sample_live : (v : Core) (n base bits : ℕ) → IsLive v → IsLive (by_sample 
 sample_live v n base bits h =
     either-live (hears v) (heard_tag (with_last v n) n (good_tag v.last n base bits)) v (heard_live (with_last v n) n (good_tag v.last n base bits) h) h
 
--- what the laws of the servo tell of chains
+-- what the laws of the servo say of chains
 pub record ServoLaws : Type 0 where
   pub since : ChainSince
   pub held : ChainIsHeld
   pub signals : ChainHasSignals
   pub sum : PhaseIsSum
 
--- ---- one call more, in a chain: it is the start, or the chain stood before and is not ended
+-- ---- one more call, in a chain: it is the start, or there was a chain before and it is not ended
 
 abbrev InChain : ServoSetting → List Call → Call → Type 0
 InChain x calls c = (chain_starts x calls c ≡ true) ⊎ ((is_some (run x calls).first ≡ true) × (chain_ends x calls c ≡ false))
@@ -133,7 +134,7 @@ pub no_start : (b : Bool) → (not b && false) ≡ true → ⊥
 no_start true e = cc
 no_start false e = cc
 
--- where the call is no good sample, and the tags since the last restart stay
+-- if the call is no good sample, and the tags since the last restart stay
 kept_live : (laws : ServoLaws) (x : ServoSetting) (calls : List Call) (c : Call) → (chain_starts x calls c ≡ true → ⊥) → (is_some (run x calls).first ≡ true → tags x (c ∷ calls) ≡ tags x calls) →
     IsLive (run x calls) → IsLive (run x (c ∷ calls))
 kept_live laws x calls c never same h e = elim (stands_at laws x calls c e) [
@@ -243,7 +244,7 @@ heard_unbroken laws fixed p (Ok m) raw sample y n u =
 
 -- ---- a carrier that comes at the slave port
 
--- it is told to the servo only there
+-- the servo is given it only there
 carrier_where : (b up : Bool) → (b && up) ≡ false → may_come (if b then Some (CallCarrier up) else None) ≡ false
 carrier_where true up h = h
 carrier_where false up h = refl

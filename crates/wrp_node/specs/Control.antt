@@ -1,4 +1,4 @@
--- The servo of a node, if it has one, and what it was told last of the lease and of the link.
+-- The servo of a node, if it has one, and the lease and the link that it was last given.
 use Rattle.std.specs.Prelude.{◌≡◌, ℕ, ℤ, ◌+◌, ◌<◌, ◌^◌, Bool, true, false, if◌then◌else◌, List, ◌∷◌, Option, None, Some, is_some, IfSome}
 use Rattle.std.specs.Option.{option_map}
 use Rattle.wrp_base.specs.declared.link.Deltas.{Deltas}
@@ -13,7 +13,7 @@ use Rattle.wrp_servo.specs.Servo.{ServoOf, StandsFor as ServoStandsFor, est_now}
 use Rattle.wrp_servo.specs.Table.{is_track}
 use Rattle.wrp_servo.specs.Told.{lease_told, link_told}
 
--- a servo, and whether it was told last that the lease is fresh and that the link is on
+-- a servo, and whether the lease that it was last given is fresh and the link that it was last given is on
 pub record ToldServo (F : Type 0) : Type 0 where
   pub servo : ServoOf F
   pub lease : Bool
@@ -24,13 +24,13 @@ pub record ControlOf (F : Type 0) : Type 0 where
   pub told : Option (ToldServo F)
   pub bias : ℕ
 
--- the servo stands for these calls, and knows what they told last
+-- the servo stands for these calls, and knows the last lease and the last link in them
 pub record ToldStands {F : Type 0} (post : F → ℤ → ℤ → Type 0) (fixed : NodeSetting) (calls : List Call) (t : ToldServo F) : Type 0 where
   pub servo : ServoStandsFor post (servo_setting_of fixed) t.servo calls
   pub lease : t.lease ≡ lease_told calls
   pub link : t.link ≡ is_some (link_told calls)
 
--- there is a servo exactly where there is a slave port
+-- there is a servo if and only if there is a slave port
 abbrev pub ServoIs : {F : Type 0} → (F → ℤ → ℤ → Type 0) → NodeSetting → List Call → Option (ToldServo F) → Type 0
 ServoIs post fixed calls None = is_some (slave_of fixed.set) ≡ false
 ServoIs post fixed calls (Some t) = (is_some (slave_of fixed.set) ≡ true) × ToldStands post fixed calls t
@@ -40,12 +40,12 @@ pub record ControlStands {F : Type 0} (post : F → ℤ → ℤ → Type 0) (fix
   pub servo : ServoIs post fixed calls c.told
   pub bias : c.bias ≡ fixed.set.servo.bias
 
--- a call was made, where there is a servo and something to tell: it answers so
+-- a call was made, if there is a servo and something to give it: it answers so
 pub record Calls {F : Type 0} (post : F → ℤ → ℤ → Type 0) (fixed : NodeSetting) (calls : List Call) (new : ControlOf F) (call : Option Call) (out : ServoOut) : Type 0 where
   pub stands : ControlStands post fixed (called (for_slave fixed call) calls) new
   pub answer : out ≡ answer_of fixed (for_slave fixed call) calls
 
--- so it is for each list of calls that it stood for; what it is told may depend on what was told before
+-- so it is for each list of calls that it stood for; the new call may depend on the earlier ones
 abbrev pub AddsCalls : {F : Type 0} → (F → ℤ → ℤ → Type 0) → ControlOf F → ControlOf F → (List Call → Option Call) → ServoOut → Type 0
 AddsCalls post old new call out =
     (fixed : NodeSetting) (calls : List Call) → ControlStands post fixed calls old → Calls post fixed calls new (call calls) out
@@ -56,24 +56,24 @@ AddsTold post old new call out =
     (fixed : NodeSetting) (calls : List Call) → ToldStands post fixed calls old →
     ToldStands post fixed (call ∷ calls) new × (out ≡ answer_of fixed (Some call) calls)
 
--- what is told of a lease, of a link, and of a carrier
+-- the calls that give the servo a lease, a link, and a carrier
 abbrev pub lease_call : Bool → List Call → Option Call
 lease_call fresh calls = if is_changed (lease_told calls) fresh then Some (CallLease fresh) else None
 
--- the call that tells the servo whether the link is on, with its four delays in tau, or off: only where this differs
--- from what the servo was told last
+-- the call that gives the servo the link: on, with its four delays in tau, or off. It is made only if this differs
+-- from what the servo was last given
 abbrev pub link_call : Option Deltas → List Call → Option Call
 link_call on calls = if is_changed (is_some (link_told calls)) (is_some on) then Some (CallLink on) else None
 
--- there is nothing to tell: there is no servo, or what there is to tell it was told last
+-- there is nothing to give: there is no servo, or it was last given the same
 abbrev pub HasNothing : {F : Type 0} → (F → ℤ → ℤ → Type 0) → ControlOf F → (List Call → Option Call) → Type 0
 HasNothing post c call = (fixed : NodeSetting) (calls : List Call) → ControlStands post fixed calls c → for_slave fixed (call calls) ≡ None
 
--- the call that tells the servo that a carrier came or went: only where its port is the slave port
+-- the call that gives the servo a carrier that came or went: only if its port is the slave port
 abbrev pub carrier_call : Bool → Bool → Option Call
 carrier_call slave up = if slave then Some (CallCarrier up) else None
 
--- the law that the servo asks, where there is a servo
+-- the law that the servo asks, if there is a servo
 abbrev pub law_in : {F : Type 0} → ControlOf F → Option (LawOf F)
 law_in c = option_map (λ t. t.servo.law) c.told
 
@@ -85,14 +85,14 @@ KeepsLaw pre post c = IfSome c.told (λ t. KeepsFact pre post t.servo.law)
 abbrev pub HasTick : {F : Type 0} → ControlOf F → Type 0
 HasTick c = IfSome c.told (λ t. t.servo.core.ticks + 1 < 2 ^ 32)
 
--- ---- what a servo's part tells of itself
+-- ---- what a servo's part reports of itself
 
--- the state of the servo; UNINIT where the node has none
+-- the state of the servo; UNINIT if the node has none
 abbrev pub state_in : {F : Type 0} → Option (ToldServo F) → ServoState
 state_in None = Uninit
 state_in (Some t) = t.servo.core.state
 
--- whether the lock detector of the servo is locked; false where the node has no servo
+-- whether the lock detector of the servo is locked; false if the node has no servo
 abbrev pub locked_in : {F : Type 0} → Option (ToldServo F) → Bool
 locked_in None = false
 locked_in (Some t) = t.servo.core.phase.lock.locked
@@ -102,7 +102,7 @@ abbrev pub certain_in : {F : Type 0} → Option (ToldServo F) → Bool
 certain_in None = true
 certain_in (Some t) = is_track t.servo.core.state
 
--- the DAC value that the loop of the servo holds; the bias where the node has no servo
+-- the DAC value that the loop of the servo holds; the bias if the node has no servo
 abbrev pub dac_in : {F : Type 0} → ℕ → Option (ToldServo F) → ℕ
 dac_in bias None = bias
 dac_in bias (Some t) = t.servo.core.phase.dac

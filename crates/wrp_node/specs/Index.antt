@@ -1,4 +1,4 @@
--- Where the ports of a node stand, by their numbers.
+-- The places of a node's ports, by their numbers.
 use Rattle.std.specs.Prelude.{◌≡◌, ◌≢◌, ℕ, ◌-◌, ◌<◌, ◌≤◌, ◌==◌, false, List, [], ◌∷◌, map, length, slice_index, slice_index_or, Option, None, Some}
 use Rattle.std.specs.List.{AllByRecursion, list_any}
 use Rattle.wrp_node.specs.declared.place.PortPlace.{PortPlace}
@@ -12,12 +12,12 @@ abbrev pub AreDifferent : List ℕ → Type 0
 AreDifferent [] = Unit {0}
 AreDifferent (q ∷ qs) = AllByRecursion (λ r. r ≢ q) qs × AreDifferent qs
 
--- a number stands at this place among these, counted from 0; or at none
+-- a number is at this place among these, counted from 0; or at none
 abbrev pub IsWhere : ℕ → List ℕ → Option ℕ → Type 0
 IsWhere p numbers None = list_any (λ q. q == p) numbers ≡ false
 IsWhere p numbers (Some at) = (at < length numbers) × (slice_index numbers at ≡ p)
 
--- an index tells where each number from 1 to 18 stands
+-- an index gives the place of each number from 1 to 18
 abbrev pub Indexes : List (Option ℕ) → List ℕ → Type 0
 Indexes index numbers = (p : ℕ) → 1 ≤ p → p ≤ 18 → IsWhere p numbers (slice_index_or index (p - 1) None)
 

@@ -1,4 +1,4 @@
--- What the port of a number tells, where there is one.
+-- What the port of a number reports, if there is one.
 use Rattle.std.specs.Prelude.{ℕ, ◌%◌, pos, nat_lt, Bool, false, Option, None, Some}
 use Rattle.wrp_base.specs.declared.link.Deltas.{Deltas}
 use Rattle.wrp_base.specs.declared.link.LinkWord.{LinkWord}
@@ -14,7 +14,7 @@ use Rattle.wrp_node.specs.declared.place.PortPlace.{PortPlace}
 use Rattle.wrp_port.specs.PortAt.{deltas_of}
 use Rattle.wrp_stamp.specs.Merge.{merged, transition_of}
 
--- whether the lease of the port is fresh, that is, has turns left; false where there is no port
+-- whether the lease of the port is fresh, that is, has turns left; false if there is no port
 abbrev pub lease_in : Option PortPlace → Bool
 lease_in None = false
 lease_in (Some place) = nat_lt 0 place.port.line.lease
@@ -24,8 +24,8 @@ abbrev pub deltas_in : Option PortPlace → Option Deltas
 deltas_in None = None
 deltas_in (Some place) = deltas_of place.port.set.ds.role place.port.line.link
 
--- the tag at which the counters of the port change over, in steps of the detector, below 16384; 0 where the port's
--- module is not listed, and where there is no port
+-- the tag at which the counters of the port change over, in steps of the detector, below 16384; 0 if the port's
+-- module is not listed, or if there is no port
 abbrev pub transition_in : Option PortPlace → ℕ
 transition_in None = 0
 transition_in (Some place) = transition_of place.port.line.link.own_module % steps_of_period
@@ -39,12 +39,12 @@ abbrev pub measured_in : Option PortPlace → Option Four
 measured_in None = None
 measured_in (Some place) = place.lent.measured
 
--- the word of the port; down where there is no port
+-- the word of the port; down if there is no port
 abbrev pub word_in : Option PortPlace → LinkWord
 word_in None = Down
 word_in (Some place) = word_of place.port.line.link
 
--- how often the port dropped something for the reason of this number; 0 where there is no port
+-- how often the port dropped something for the reason of this number; 0 if there is no port
 abbrev pub times_in : ℕ → Option PortPlace → ℕ
 times_in reason None = 0
 times_in reason (Some place) = count_at place.counters reason

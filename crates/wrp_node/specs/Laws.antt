@@ -13,7 +13,7 @@ use Rattle.wrp_node.specs.NodeStep.{dropped, node_step}
 use Rattle.wrp_node.specs.Telling.{lease_change, link_change}
 use Rattle.wrp_port.specs.Hearing.{early_reason}
 
--- between inputs the servo knows of the lease and of WR_LINK_ON: there is nothing to tell
+-- between inputs the servo knows of the lease and of WR_LINK_ON: there is nothing to give it
 pub record IsSettled (fixed : NodeSetting) (n : NodeAt) : Type 0 where
   pub lease : lease_change fixed n ≡ None
   pub link : link_change fixed n ≡ None
@@ -28,7 +28,7 @@ pub record LeavesACount (fixed : NodeSetting) (t : Taken) (n : NodeAt) (p reason
   pub node : node_step fixed t n ≡ dropped p reason n
   pub silent : outputs_of fixed t.input n (node_step fixed t n) ≡ []
 
--- so it is for every frame with such a reason, at a node with nothing to tell its servo
+-- so it is for every frame with such a reason, at a node with nothing to give its servo
 abbrev pub DroppedLeavesACount : Type 0
 DroppedLeavesACount =
     (fixed : NodeSetting) (t : Taken) (n : NodeAt) (p : ℕ) (octets : List ℕ) (raw : Raw) (sample reason : ℕ) →

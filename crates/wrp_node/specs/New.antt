@@ -34,12 +34,12 @@ pub record FitsNodeSet (set : NodeSet) : Type 0 where
   pub numbers : OfDifferentNumbers set.ports.items
   pub report : 1 ≤ set.report
 
--- the least delay both ways, in tau, in the range of the law; 0 where there is no law
+-- the least delay both ways, in tau, in the range of the law; 0 if there is no law
 abbrev pub low_of : {F : Type 0} → Option (LawOf F) → ℤ
 low_of None = pos 0
 low_of (Some law) = law.lo
 
--- the greatest delay both ways, in tau, in the range of the law; 0 where there is no law
+-- the greatest delay both ways, in tau, in the range of the law; 0 if there is no law
 abbrev pub high_of : {F : Type 0} → Option (LawOf F) → ℤ
 high_of None = pos 0
 high_of (Some law) = law.hi
@@ -48,7 +48,7 @@ high_of (Some law) = law.hi
 abbrev pub node_setting_of : {F : Type 0} → NodeSet → Option (LawOf F) → NodeSetting
 node_setting_of set law = record { set = set; lo = low_of law; hi = high_of law }
 
--- a port that was told nothing
+-- a port that was given no input
 pub record IsNewPlace (set : NodeSet) (ds : PortDs) (place : PortPlace) : Type 0 where
   pub number : place.number ≡ ds.own.port
   pub set_is : place.port.set ≡ setting_by set ds

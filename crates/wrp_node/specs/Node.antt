@@ -74,7 +74,7 @@ servo_has_sample number base bits fixed n = tell fixed (for_slave fixed (Some (C
 abbrev pub ticked : NodeSetting → NodeAt → Step
 ticked fixed n = ports_ticked fixed (servo_ticked fixed n)
 
--- the ports have their tick, where none has sent yet
+-- the ports have their tick, if none has sent yet
 abbrev pub PortsTick : {F : Type 0} → (F → ℤ → ℤ → Type 0) → NodeOf F → NodeOf F → Type 0
 PortsTick post old new =
     (fixed : NodeSetting) (before : NodeAt) (s : Step) → ((p : ℕ) → s.sends p ≡ []) → IsIn post fixed before s old →
@@ -98,11 +98,11 @@ TakesFrame post p octets raw sample old new =
 abbrev pub TakesMessage : {F : Type 0} → (F → ℤ → ℤ → Type 0) → ℕ → PtpMsg → Raw → ℕ → NodeOf F → NodeOf F → Type 0
 TakesMessage post p message raw sample old new = (answer : ℤ) × NodeTakes post (heard_at p (Ok message) raw sample answer) old new
 
--- the stamp of a Delay_Req (`delay` is true) or a Sync that a port sent is told to this port, with the node's tick count
+-- the port is given the stamp of a Delay_Req (`delay` is true) or a Sync that it sent, with the node's tick count
 abbrev pub sent_at : ℕ → ℕ → Bool → Stamp → NodeSetting → NodeAt → Step
 sent_at p seq delay stamp fixed n = handed fixed p (PortSent delay seq stamp n.ticks) n
 
--- the carrier of a port comes or goes; the port's module is there where the calibration database lists it
+-- the carrier of a port comes or goes; the port's module is there if the calibration database lists it
 abbrev pub carried_at : ℕ → Bool → Option Module → NodeSetting → NodeAt → Step
 carried_at p up own_module fixed n = carried fixed p up own_module n
 
@@ -117,8 +117,8 @@ Takes post input old new =
 abbrev pub track_in : {F : Type 0} → Bool → NodeOf F → Option ℤ
 track_in tick node = if tick && (node.parts.ticks % node.report == 0) then tracked_in node.control.told else None
 
--- all that is put out after an input, in its order: the step of the clock, the DAC value, the state of the servo where
--- it changed, the word and the frames of each port, and the track report
+-- all that is put out after an input, in its order: the step of the clock, the DAC value, the state of the servo if it
+-- changed, the word and the frames of each port, and the track report
 abbrev pub puts_out : {F : Type 0} → ServoState → Bool → NodeOf F → List Output
 puts_out before tick node =
     step_out node.parts.cycles ++ dac_out node.parts.dac ++ servo_out before (state_in node.control.told)
@@ -129,7 +129,7 @@ abbrev pub is_tick : Input → Bool
 is_tick Tick = true
 is_tick _ = false
 
--- ---- what it tells of itself, for each list of inputs that it stands for
+-- ---- what it reports of itself, for each list of inputs that it stands for
 
 -- a result is the value of the node after any list of inputs that it stands for
 abbrev pub Tells : {F A : Type 0} → (F → ℤ → ℤ → Type 0) → (NodeSetting → NodeAt → A) → NodeOf F → A → Type 0

@@ -1,4 +1,5 @@
--- A node at a moment: what each of its parts was told, newest first; and what its settings are to its parts (this project's profile).
+-- A node at a moment: what each of its parts was given, newest first; and what its settings are to its parts (this
+-- project's profile).
 use Rattle.std.specs.Prelude.{ℕ, ℤ, ◌==◌, Bool, true, false, if◌then◌else◌, nat_lt, List, [], ◌∷◌, map, Option, None, Some, is_some, Result}
 use Rattle.std.specs.List.{find}
 use Rattle.std.specs.Option.{option_map}
@@ -24,7 +25,7 @@ use Rattle.wrp_servo.specs.declared.machine.Core.{Core}
 use Rattle.wrp_servo.specs.Servo.{est_now}
 use Rattle.wrp_servo.specs.Table.{is_track}
 
--- an input that was taken: it stands with what its octets say, if it is a frame, and with the law's answer, should the law be asked
+-- an input that was taken: beside it, what its octets say, if it is a frame, and the law's answer, if the law is asked
 pub record Taken : Type 0 where
   pub input : Input
   pub says : Result PtpMsg FrameFault
@@ -40,20 +41,20 @@ pub record NodeSetting : Type 0 where
 pub record NodeAt : Type 0 where
   -- the ticks since the last reset
   pub ticks : ℕ
-  -- what each port was told, by its number, newest first
+  -- what each port was given, by its number, newest first
   pub told : ℕ → List PortIn
-  -- what the servo was told, newest first
+  -- what the servo was given, newest first
   pub calls : List Call
   -- the counters of each port
   pub counters : ℕ → List ℕ
 
 -- ---- the ports that a node is set to
 
--- a port whose number is below that of another
+-- a port with a lower number than another
 abbrev pub is_before : PortDs → PortDs → Bool
 is_before one other = nat_lt one.own.port other.own.port
 
--- a port at its place among ports in ascending order: behind those of lower numbers
+-- a port at its place among ports in ascending order: after the ports of lower numbers
 abbrev pub placed : PortDs → List PortDs → List PortDs
 placed ds [] = ds ∷ []
 placed ds (other ∷ ports) = if is_before other ds then other ∷ placed ds ports else ds ∷ other ∷ ports
@@ -80,11 +81,11 @@ slave_in ports = option_map (λ ds. ds.own.port) (find (λ ds. is_slave ds.role)
 abbrev pub slave_of : NodeSet → Option ℕ
 slave_of set = slave_in set.ports.items
 
--- the port that stands for a number which no port has
+-- the port that is used for a number which no port has
 abbrev pub no_port : PortDs
 no_port = record { own = record { clock = 0; port = 0 }; peer = record { clock = 0; port = 0 }; role = Master; wr = false }
 
--- a port that was looked for, or the one in its place where none was found
+-- a port that was looked for, or the one in its place if none was found
 abbrev pub port_or_none : Option PortDs → PortDs
 port_or_none None = no_port
 port_or_none (Some ds) = ds
@@ -140,7 +141,7 @@ dac_of fixed n = if is_some (slave_of fixed.set) then (servo_at fixed n).phase.d
 abbrev pub certain_of : NodeSetting → NodeAt → Bool
 certain_of fixed n = if is_some (slave_of fixed.set) then is_track (servo_at fixed n).state else true
 
--- the offset from the parent, where a four stands
+-- the offset from the parent, if there is a four
 abbrev pub est_of : NodeSetting → NodeAt → Option ℤ
 est_of fixed n = est_now (servo_at fixed n)
 
@@ -149,11 +150,11 @@ abbrev pub is_fresh_at : NodeSet → NodeAt → Option ℕ → Bool
 is_fresh_at set n None = false
 is_fresh_at set n (Some p) = is_fresh (setting_of set p) (n.told p)
 
--- whether the lease of the node's slave port is fresh; false where it has none
+-- whether the lease of the node's slave port is fresh; false if it has none
 abbrev pub is_fresh_in : NodeSet → NodeAt → Bool
 is_fresh_in set n = is_fresh_at set n (slave_of set)
 
--- the four delays of the slave port's link, where it is in WR_LINK_ON
+-- the four delays of the slave port's link, if it is in WR_LINK_ON
 abbrev pub deltas_at : NodeSet → NodeAt → Option ℕ → Option Deltas
 deltas_at set n None = None
 deltas_at set n (Some p) = port_deltas_of (port_of set p).role (link_at set n p)

@@ -23,11 +23,11 @@ use Rattle.wrp_servo.specs.Table.{is_track}
 
 -- ---- outputs, in their order
 
--- the step of the clock, where it is one
+-- the step of the clock, if it is not 0
 abbrev pub step_out : ℤ → List Output
 step_out cycles = if unsigned_abs cycles == 0 then [] else StepOf cycles ∷ []
 
--- the DAC value, where the input brought a new one
+-- the DAC value, if the input brought a new one
 abbrev pub dac_out : Option ℕ → List Output
 dac_out None = []
 dac_out (Some value) = Dac value ∷ []
@@ -42,11 +42,11 @@ rank_of WaitStable = 4
 rank_of Track = 5
 rank_of Holdover = 6
 
--- the state of the servo, where it differs from the one before the input
+-- the state of the servo, if it differs from the one before the input
 abbrev pub servo_out : ServoState → ServoState → List Output
 servo_out before after = if rank_of before == rank_of after then [] else ReportOf (Servo after) ∷ []
 
--- the word of a port, where it differs from the one before the input
+-- the word of a port, if it differs from the one before the input
 abbrev pub word_out : ℕ → LinkWord → LinkWord → List Output
 word_out p before after = if is_word before after then [] else ReportOf (Link p after) ∷ []
 
@@ -92,12 +92,12 @@ abbrev pub outputs_at : NodeSetting → List Taken → Taken → List Output
 outputs_at fixed before t =
     outputs_of fixed t.input (node_after fixed before) (node_step fixed t (node_after fixed before))
 
--- what is noted beside an input as said by its octets is what they say
+-- what is noted beside an input, as said by its octets, is what they say
 abbrev pub IsSaid : Input → Result PtpMsg FrameFault → Type 0
 IsSaid (Frame p octets raw sample) says = Says octets.items says
 IsSaid _ says = Unit {0}
 
--- beside each frame stands what its octets say
+-- beside each frame is noted what its octets say
 abbrev pub AllSaid : List Taken → Type 0
 AllSaid [] = Unit {0}
 AllSaid (t ∷ before) = IsSaid t.input t.says × AllSaid before

@@ -1,4 +1,4 @@
--- What each input makes of a node: which of its parts is told what, and in which order (this project's profile).
+-- What each input makes of a node: which of its parts is given what, and in which order (this project's profile).
 use Rattle.std.specs.Prelude.{ℕ, ℤ, pos, ◌+◌, ◌%◌, ◌==◌, Bool, false, if◌then◌else◌, List, Option, None, Some, Result, Ok, Err}
 use Rattle.wrp_base.specs.declared.link.Module.{Module}
 use Rattle.wrp_base.specs.declared.measurement.Four.{Four}
@@ -21,16 +21,16 @@ use Rattle.wrp_port.specs.Outputs.{sends_of, drop_of, measured_by}
 use Rattle.wrp_servo.specs.Call.{Call, CallSample, CallMeasured, CallTick, CallCarrier, CallReset}
 use Rattle.wrp_stamp.specs.Merge.{merged, transition_of}
 
--- one port is told something, and sends what comes of it
+-- one port is given an input, and sends what follows from it
 abbrev pub handed : NodeSetting → ℕ → PortIn → NodeAt → Step
 handed fixed p input n =
     record (step_from (record n { told = told_at n.told p input })) {
       sends = only_at p (sends_of (setting_of fixed.set p) (line_at fixed.set n p) input);
     }
 
--- ---- a tick: it is counted; then the lease, of which the servo is told; then the servo's tick; then the ports
+-- ---- a tick: it is counted; then the servo is given the lease; then the servo's tick; then the ports
 
--- the slave port is told something, if there is one
+-- the slave port is given an input, if there is one
 abbrev pub told_slave : Option ℕ → PortIn → (ℕ → List PortIn) → ℕ → List PortIn
 told_slave None input told q = told q
 told_slave (Some p) input told q = told_at told p input q
@@ -39,7 +39,7 @@ told_slave (Some p) input told q = told_at told p input q
 abbrev pub counted_tick : NodeSetting → NodeAt → NodeAt
 counted_tick fixed n = record n { ticks = n.ticks + 1; told = told_slave (slave_of fixed.set) Lease n.told }
 
--- second: the servo is told of the lease, where this changed
+-- second: the servo is given the lease, if this changed
 abbrev pub lease_ticked : NodeSetting → NodeAt → Step
 lease_ticked fixed n = with_lease fixed (step_from (counted_tick fixed n))
 
@@ -51,7 +51,7 @@ servo_ticked fixed n = tell fixed (for_slave fixed (Some CallTick)) (lease_ticke
 abbrev pub tick_of : NodeSetting → NodeAt → PortIn
 tick_of fixed n = PortTick (locked_of fixed n) (certain_of fixed n)
 
--- last: every port has its tick, and sends what comes of it
+-- last: every port has its tick, and sends what follows from it
 abbrev pub ports_ticked : NodeSetting → Step → Step
 ports_ticked fixed s = record s {
   node = record s.node { told = told_all s.node.told (tick_of fixed s.node) };
@@ -60,7 +60,7 @@ ports_ticked fixed s = record s {
 
 -- ---- a frame
 
--- the stamp of its reception, merged with the transition of the port's module, which is 0 where the module is not listed
+-- the stamp of its reception, merged with the transition of the port's module, which is 0 if the module is not listed
 abbrev pub stamp_of : NodeSetting → NodeAt → ℕ → Raw → ℕ → Stamp
 stamp_of fixed n p raw sample =
     record {
@@ -84,14 +84,14 @@ counted_use fixed p input n =
       counters = counted_at n.counters p (drop_of (setting_of fixed.set p) (line_at fixed.set n p) (pieces_at fixed.set n p) input);
     }
 
--- a port takes a message, and sends what comes of it
+-- a port takes a message, and sends what follows from it
 abbrev pub used : NodeSetting → ℕ → PortIn → NodeAt → Step
 used fixed p input n =
     record (step_from (counted_use fixed p input n)) {
       sends = only_at p (sends_of (setting_of fixed.set p) (line_at fixed.set n p) input);
     }
 
--- a new measurement is told to the servo, with the law's answer
+-- the servo is given a new measurement, with the law's answer
 abbrev pub measurement_by : Option Four → ℤ → Option Call
 measurement_by None answer = None
 measurement_by (Some four) answer = Some (CallMeasured four answer)
@@ -100,12 +100,12 @@ measurement_by (Some four) answer = Some (CallMeasured four answer)
 abbrev pub measured_at : NodeSetting → NodeAt → ℕ → PortIn → Option Four
 measured_at fixed n p input = measured_by (setting_of fixed.set p) (line_at fixed.set n p) (pieces_at fixed.set n p) input
 
--- a port takes a message; where this makes a measurement, the servo is told of it
+-- a port takes a message; if this makes a measurement, the servo is given it
 abbrev pub measured : NodeSetting → ℕ → PortIn → ℤ → NodeAt → Step
 measured fixed p input answer n =
     tell fixed (for_slave fixed (measurement_by (measured_at fixed n p input) answer)) (used fixed p input n)
 
--- a message is dropped for the reason given, or taken where there is none
+-- a message is dropped for the reason given, or taken if there is none
 abbrev pub heard_unless : Option Reason → NodeSetting → ℕ → PortIn → ℤ → NodeAt → Step
 heard_unless None fixed p input answer n = measured fixed p input answer n
 heard_unless (Some reason) fixed p input answer n = dropped p (reason_number reason) n
@@ -124,12 +124,12 @@ abbrev pub is_slave_port : Option ℕ → ℕ → Bool
 is_slave_port None p = false
 is_slave_port (Some q) p = q == p
 
--- the servo is told of the slave port's carrier
+-- the servo is given the slave port's carrier
 abbrev pub carried : NodeSetting → ℕ → Bool → Option Module → NodeAt → Step
 carried fixed p up own_module n =
     tell fixed (for_slave fixed (if is_slave_port (slave_of fixed.set) p then Some (CallCarrier up) else None)) (handed fixed p (PortCarrier up own_module) n)
 
--- the servo is told of a reset, if the node has one
+-- the node's servo, if it has one, is given a reset
 abbrev pub called_reset : NodeSetting → List Call → List Call
 called_reset fixed calls = called (for_slave fixed (Some CallReset)) calls
 
@@ -140,7 +140,7 @@ restarted fixed n =
 
 -- ---- each input
 
--- what an input makes of a node, before the servo is told of what changed
+-- what an input makes of a node, before the servo is given what changed
 abbrev pub stepped : NodeSetting → Input → Result PtpMsg FrameFault → ℤ → NodeAt → Step
 stepped fixed Tick says answer n = ports_ticked fixed (servo_ticked fixed n)
 stepped fixed (Sample number base bits) says answer n = tell fixed (for_slave fixed (Some (CallSample number base bits))) (step_from n)
@@ -149,6 +149,6 @@ stepped fixed (Sent p seq delay stamp) says answer n = handed fixed p (PortSent 
 stepped fixed (Carrier p up own_module) says answer n = carried fixed p up own_module n
 stepped fixed Reset says answer n = step_from (restarted fixed n)
 
--- after every input the servo is told of a changed lease and of a changed WR_LINK_ON
+-- after every input the servo is given a changed lease and a changed WR_LINK_ON
 abbrev pub node_step : NodeSetting → Taken → NodeAt → Step
 node_step fixed t n = settled fixed (stepped fixed t.input t.says t.answer n)

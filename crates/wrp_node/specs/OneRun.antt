@@ -15,7 +15,8 @@ SameInputs _ _ = ⊥
 abbrev pub answers_by : (ℤ → ℤ) → ℤ → ℤ → Type 0
 answers_by law x y = y ≡ law x
 
--- two nodes are alike: their ticks, their counters, what each port was told, and the servo. The lists of the servo's calls may differ in the answers noted at measurements for which the law was not asked
+-- two nodes are alike: their ticks, their counters, what each port was given, and the servo. The lists of the servo's
+-- calls may differ in the answers noted at measurements for which the law was not asked
 pub record AreAlike (fixed : NodeSetting) (n o : NodeAt) : Type 0 where
   pub ticks : n.ticks ≡ o.ticks
   pub told : (p : ℕ) → n.told p ≡ o.told p

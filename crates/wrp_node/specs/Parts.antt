@@ -25,11 +25,11 @@ use Rattle.wrp_port.specs.PortAt.{StandsFor as PortStandsFor}
 use Rattle.wrp_servo.specs.Call.{Call}
 use Rattle.wrp_servo.specs.declared.interface.ServoOut.{ServoOut}
 
--- whether a number is that of one of these ports
+-- whether one of these ports has this number
 abbrev pub is_among : ℕ → List PortPlace → Bool
 is_among p places = list_any (λ q. q == p) (map (λ place. place.number) places)
 
--- a port stands for what it was told
+-- a port stands for what it was given
 pub record PlaceStands (fixed : NodeSetting) (n : NodeAt) (place : PortPlace) : Type 0 where
   pub set : place.port.set ≡ setting_of fixed.set place.number
   pub told : PortStandsFor place.port (n.told place.number)
@@ -42,7 +42,7 @@ pub record PlaceIn (fixed : NodeSetting) (before : NodeAt) (s : Step) (place : P
   pub sends : place.sends.items ≡ s.sends place.number
   pub sound : AllByRecursion IsSound place.sends.items
 
--- a node but its servo, between inputs
+-- a node without its servo, between inputs
 pub record PartsAt (fixed : NodeSetting) (n : NodeAt) (parts : Parts) : Type 0 where
   pub numbers : map (λ place. place.number) parts.ports ≡ numbers_of fixed.set
   pub places : AllByRecursion (PlaceStands fixed n) parts.ports
@@ -71,7 +71,7 @@ Leads moved old new = (fixed : NodeSetting) (before : NodeAt) (s : Step) → Par
 abbrev pub Begun : Parts → Parts → Type 0
 Begun old new = (fixed : NodeSetting) (n : NodeAt) → PartsAt fixed n old → PartsIn fixed n (step_from n) new
 
--- some ports were told an input
+-- some ports were given an input
 abbrev pub given : To → PortIn → NodeSetting → Step → Step
 given to input fixed s = record s {
   node = record s.node {
@@ -84,7 +84,7 @@ given to input fixed s = record s {
       if is_to to q then newest_sends (sends_of (setting_of fixed.set q) (line_at fixed.set s.node q) input) (s.sends q) else s.sends q;
 }
 
--- one port was told something of the servo's chain, of which it counts and sends nothing
+-- one port was given something of the servo's chain; it counts and sends nothing for it
 abbrev pub told_only : ℕ → (List PortIn → List PortIn) → NodeSetting → Step → Step
 told_only p more fixed s = record s { node = record s.node { told = λ q. if q == p then more (s.node.told q) else s.node.told q } }
 
@@ -92,12 +92,12 @@ told_only p more fixed s = record s { node = record s.node { told = λ q. if q =
 abbrev pub reason_counted : ℕ → Option ℕ → NodeSetting → Step → Step
 reason_counted p reason fixed s = record s { node = record s.node { counters = counted_at s.node.counters p reason } }
 
--- an answer of the servo was taken over: its step of the clock, in periods, where it is not 0, and its DAC value, if it
+-- an answer of the servo was taken over: its step of the clock, in periods, if it is not 0, and its DAC value, if it
 -- has one
 abbrev pub commanded : ServoOut → NodeSetting → Step → Step
 commanded out fixed s = record s { cycles = newest_step out.cycles s.cycles; dac = option_or out.dac s.dac }
 
--- the number of a sample is told as the call has it
+-- the number given with a sample is the one that the call has
 abbrev pub IsNumber : ServoOut → ℕ → Option Call → Type 0
 IsNumber out number call = (told : List PortIn) → heard_of out number told ≡ heard_of out (number_of call) told
 
@@ -107,7 +107,7 @@ AnswerTaken out number old new =
     (fixed : NodeSetting) (before : NodeAt) (s : Step) (call : Option Call) → PartsIn fixed before s old →
     out ≡ answer_of fixed call s.node.calls → IsNumber out number call → PartsIn fixed before (tell fixed call s) new
 
--- the same, as far as the slave port is told of it
+-- the same, as far as the slave port is given it
 abbrev pub slave_told : ServoOut → ℕ → NodeSetting → Step → Step
 slave_told out number fixed s = record s {
   node = record s.node {

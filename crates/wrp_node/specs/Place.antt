@@ -27,7 +27,7 @@ abbrev pub is_message : PortIn → Bool
 is_message (Msg message stamp tick) = true
 is_message _ = false
 
--- the port was told one input more: it counts why it dropped a message, and keeps what it is to send
+-- the port was given one more input: it counts why it dropped a message, and keeps what it is to send
 pub record Gives (input : PortIn) (old new : PortPlace) : Type 0 where
   pub number : new.number ≡ old.number
   pub word : new.word ≡ old.word
@@ -48,7 +48,7 @@ abbrev pub is_to : To → ℕ → Bool
 is_to Every p = true
 is_to (One q) p = p == q
 
--- a port is given an input where the input is for it, and else stays as it is
+-- a port is given an input if the input is for it, and otherwise stays as it is
 abbrev pub GivenWhere : Bool → PortIn → PortPlace → PortPlace → Type 0
 GivenWhere true input old new = Gives input old new
 GivenWhere false input old new = new ≡ old
@@ -73,7 +73,7 @@ pub record Begins (old new : PortPlace) : Type 0 where
   pub word : new.word ≡ word_of old.port.line.link
   pub sends : new.sends.items ≡ []
 
--- what a port puts out: its word, where it changed, and its frames
+-- what a port puts out: its word, if it changed, and its frames
 abbrev pub place_out : PortPlace → List Output
 place_out place =
     word_out place.number place.word (word_of place.port.line.link) ++ map (frame_out place.number) place.sends.items

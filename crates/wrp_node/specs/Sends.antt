@@ -29,7 +29,7 @@ abbrev pub signals_in : List PtpMsg → List PtpMsg
 signals_in [] = []
 signals_in (m ∷ messages) = if is_signal m.body then m ∷ signals_in messages else signals_in messages
 
--- what a link sends at what it is told
+-- what a link sends after what it is given
 abbrev pub link_sends : LinkAt → LinkNews → List WrMsg
 link_sends l Nothing = []
 link_sends l (Given input) = sends_of l input
@@ -40,7 +40,7 @@ abbrev pub signals_at : NodeSetting → NodeAt → ℕ → LinkNews → List Ptp
 signals_at fixed n p news =
     signals_of (setting_of fixed.set p) (line_at fixed.set n p).ids.signal (link_sends (link_at fixed.set n p) news)
 
--- the Signaling messages that a port sends at a step are those of its link, in their order, and no others
+-- the Signaling messages that a port sends at a step are the ones that its link sends, in their order, and no others
 abbrev pub SignalsAreOfLink : Type 0
 SignalsAreOfLink =
     (fixed : NodeSetting) (t : Taken) (n : NodeAt) (p : ℕ) →
@@ -54,7 +54,7 @@ frames_at p [] = []
 frames_at p (Send q frame ∷ outs) = if q == p then frame.items ∷ frames_at p outs else frames_at p outs
 frames_at p (out ∷ outs) = frames_at p outs
 
--- whether a number is that of one of the node's ports
+-- whether one of the node's ports has this number
 abbrev pub is_own_port : NodeSetting → ℕ → Bool
 is_own_port fixed p = list_any (λ ds. ds.own.port == p) fixed.set.ports.items
 

@@ -73,7 +73,7 @@ ports_of net n = flat_map (ports_at net n) net.links.items
 
 -- ---- the numbers of the network
 
--- those of link setup; each port reads its own `wr`
+-- the settings of link setup; each port reads its own `wr`
 abbrev pub link_set_of : NetCfg → LinkSet
 link_set_of net = record {
   quiet = unsigned_abs net.quiet;
@@ -84,7 +84,7 @@ link_set_of net = record {
   wr = true;
 }
 
--- those of a port's schedule and of the lease
+-- the settings of a port's schedule and of the lease
 abbrev pub sched_of : NetCfg → Sched
 sched_of net = record {
   announce = unsigned_abs net.announce;
@@ -93,7 +93,7 @@ sched_of net = record {
   lease = unsigned_abs net.lease;
 }
 
--- those of the servo
+-- the settings of the servo
 abbrev pub servo_set_of : NetCfg → ServoSet
 servo_set_of net = record {
   holdover = unsigned_abs net.holdover;

@@ -91,7 +91,7 @@ three_nodes = record {
 
 -- ---- what its nodes are set to
 
--- the numbers are those of all nodes
+-- the numbers are the same for all nodes
 abbrev pub set_with : DefaultDs → List PortDs → NodeSet
 set_with own ports = record {
   own = own;

@@ -21,7 +21,7 @@ pub record NodeOf (F : Type 0) : Type 0 where
   -- the ticks from one track report to the next
   pub report : ℕ
 
--- each part of a node stands for what it was told
+-- each part of a node stands for what it was given
 pub record IsAt {F : Type 0} (post : F → ℤ → ℤ → Type 0) (fixed : NodeSetting) (n : NodeAt) (node : NodeOf F) : Type 0 where
   pub parts : PartsAt fixed n node.parts
   pub control : ControlStands post fixed n.calls node.control

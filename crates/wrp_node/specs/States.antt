@@ -10,7 +10,7 @@ use Rattle.wrp_node.specs.NodeAt.{NodeSetting, NodeAt, link_at}
 abbrev pub port_state : PortPlace → PortState
 port_state place = record { port = place.number; state = place.port.line.link.state }
 
--- the state of a port among these, IDLE where it is not among them
+-- the state of a port among these, IDLE if it is not among them
 abbrev pub state_in : ℕ → List PortState → LinkState
 state_in p [] = Idle
 state_in p (port ∷ ports) = if port.port == p then port.state else state_in p ports

@@ -12,7 +12,7 @@ abbrev pub is_frame : Input → Bool
 is_frame (Frame p octets raw sample) = true
 is_frame _ = false
 
--- what is noted beside an input that is no frame is of no account
+-- what is noted beside an input that is no frame has no effect
 abbrev pub OnlyFramesSay : Type 0
 OnlyFramesSay =
     (fixed : NodeSetting) (n : NodeAt) (input : Input) (says other : Result PtpMsg FrameFault) (y z : ℤ) → is_frame input ≡ false →

@@ -1,4 +1,4 @@
--- The servo is told something: it answers, and its answer goes to the slave port and to the counters (this project's profile).
+-- The servo is given a call: its answer goes to the slave port and to the counters (this project's profile).
 use Rattle.std.specs.Prelude.{ℕ, ℤ, pos, ◌==◌, Bool, true, false, if◌then◌else◌, not, unsigned_abs, List, [], ◌∷◌, Option, None, Some, is_some}
 use Rattle.std.specs.Option.{option_or}
 use Rattle.wrp_base.specs.declared.measurement.ChainNews.{ChainNews}
@@ -20,17 +20,17 @@ pub record Step : Type 0 where
   pub dac : Option ℕ
   pub sends : ℕ → List PtpMsg
 
--- nothing came of the input yet
+-- nothing has followed from the input yet
 abbrev pub step_from : NodeAt → Step
 step_from n = record { node = n; cycles = pos 0; dac = None; sends = λ p. [] }
 
 -- ---- ports and counters
 
--- one port is told something
+-- one port is given an input
 abbrev pub told_at : (ℕ → List PortIn) → ℕ → PortIn → ℕ → List PortIn
 told_at told p input q = if q == p then input ∷ told q else told q
 
--- every port is told something
+-- every port is given an input
 abbrev pub told_all : (ℕ → List PortIn) → PortIn → ℕ → List PortIn
 told_all told input q = input ∷ told q
 
@@ -49,12 +49,12 @@ counted_at counters p reason q = if q == p then counted reason (counters q) else
 
 -- ---- what an answer of the servo is to the slave port: first what became of the chain, then the sample
 
--- what became of the chain of good samples is told, unless the chain is as it was
+-- the slave port is given what became of the chain of good samples, unless the chain is as it was
 abbrev pub with_news : ChainNews → List PortIn → List PortIn
 with_news Same told = told
 with_news news told = Chain news ∷ told
 
--- a good sample is told, if there is one: its number, and its unwrapped phase in tau
+-- the slave port is given a good sample, if there is one: its number, and its unwrapped phase in tau
 abbrev pub with_sample : Option ℤ → ℕ → List PortIn → List PortIn
 with_sample None number told = told
 with_sample (Some phase) number told = Sample number phase ∷ told
@@ -64,11 +64,11 @@ abbrev pub number_of : Option Call → ℕ
 number_of (Some (CallSample n base bits)) = n
 number_of _ = 0
 
--- all that the slave port is told of an answer; `number` is the sample's
+-- all that the slave port is given of an answer; `number` is the sample's
 abbrev pub heard_of : ServoOut → ℕ → List PortIn → List PortIn
 heard_of out number told = with_sample out.unwrapped number (with_news out.chain told)
 
--- an answer is told to the slave port, if there is one, and to no other port
+-- the answer is given to the slave port, if there is one, and to no other port
 abbrev pub told_by : Option ℕ → ServoOut → ℕ → (ℕ → List PortIn) → ℕ → List PortIn
 told_by None out number told q = told q
 told_by (Some p) out number told q = if q == p then heard_of out number (told q) else told q
@@ -78,13 +78,13 @@ abbrev pub counted_by : Option ℕ → ServoOut → (ℕ → List ℕ) → ℕ �
 counted_by None out counters q = counters q
 counted_by (Some p) out counters q = counted_at counters p out.refused q
 
--- ---- telling
+-- ---- giving a call to the servo
 
--- a node without a slave port has no servo that could be told
+-- a node without a slave port has no servo to call
 abbrev pub for_slave : NodeSetting → Option Call → Option Call
 for_slave fixed call = if is_some (slave_of fixed.set) then call else None
 
--- nothing is told, and nothing comes of it
+-- there is no call, and nothing follows from it
 abbrev pub no_answer : ServoOut
 no_answer = plain_out (pos 0) Same None
 
@@ -102,7 +102,7 @@ called (Some call) calls = call ∷ calls
 abbrev pub newest_step : ℤ → ℤ → ℤ
 newest_step new old = if unsigned_abs new == 0 then old else new
 
--- the servo is told something, if there is something to tell
+-- the servo is given a call, if there is one
 abbrev pub tell : NodeSetting → Option Call → Step → Step
 tell fixed call s = record {
   node = record {
@@ -118,12 +118,12 @@ tell fixed call s = record {
 
 -- ---- a changed lease, and a changed WR_LINK_ON
 
--- whether what holds now differs from what was told last
+-- whether what holds now differs from what was last given
 abbrev pub is_changed : Bool → Bool → Bool
 is_changed true now = not now
 is_changed false now = now
 
--- what is to be told of the lease: only where it is another than was told last
+-- the call that gives the servo the lease: only if it differs from the lease last given
 abbrev pub lease_change : NodeSetting → NodeAt → Option Call
 lease_change fixed n =
     for_slave fixed
@@ -135,14 +135,14 @@ link_change fixed n =
     for_slave fixed
     (if is_changed (is_some (link_told n.calls)) (is_some (deltas_in fixed.set n)) then Some (CallLink (deltas_in fixed.set n)) else None)
 
--- the servo is told of the lease, where this changed
+-- the servo is given the lease, if this changed
 abbrev pub with_lease : NodeSetting → Step → Step
 with_lease fixed s = tell fixed (lease_change fixed s.node) s
 
--- the servo is told of WR_LINK_ON, where this changed
+-- the servo is given WR_LINK_ON, if this changed
 abbrev pub with_link : NodeSetting → Step → Step
 with_link fixed s = tell fixed (link_change fixed s.node) s
 
--- the servo is told of a changed lease, then of a changed WR_LINK_ON
+-- the servo is given a changed lease, then a changed WR_LINK_ON
 abbrev pub settled : NodeSetting → Step → Step
 settled fixed s = with_link fixed (with_lease fixed s)

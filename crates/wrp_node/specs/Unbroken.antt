@@ -14,7 +14,7 @@ leaves_fresh x calls call = (run x (call ∷ calls)).phase.fresh
 abbrev pub breaks_chain : ServoSetting → List Call → Call → Bool
 breaks_chain x calls call = chain_ends x calls call || leaves_fresh x calls call
 
--- a chain stands exactly where one of the servo's calls started it, and none after that ended it or restarted the loop
+-- there is a chain if and only if one of the servo's calls started it and no later call ended it or restarted the loop
 abbrev pub ChainIsUnbroken : Type 0
 ChainIsUnbroken =
     (fixed : NodeSetting) (inputs : List Taken) →

@@ -1,4 +1,4 @@
-//! The servo of a node, which has one exactly where it has a slave port.
+//! The servo of a node. A node has one if and only if it has a slave port.
 ghost use Rattle.std.specs.Prelude.{◌≡◌, ◌<◌, ℤ, false, [], Some, is_some, IfSome};
 ghost use Rattle.wrp_data.specs.Reason.{IsReason};
 ghost use Rattle.wrp_law.specs.Law.{KeepsFact};
@@ -31,7 +31,7 @@ impl<F> Model for Control<F> {
     ghost view = { λ c. record { told = c.told; bias = c.bias } };
 }
 
-// Nothing is told, and nothing comes of it.
+// The servo is given nothing, and nothing follows from it.
 fn no_answer() -> ServoOut
     ensures { result ≡ no_answer }
 {
@@ -45,7 +45,7 @@ fn no_answer() -> ServoOut
 }
 
 impl<F: Fn(i64) -> i64> Control<F> {
-    /// The servo before any call, where there is a law for it.
+    /// The servo before any call, if there is a law for it.
     pub fn of(set: ServoSet, law: Option<DelayLaw<F>>) -> Control<F>
         requires set { FitsServoSet set }
         requires fact { IfSome law (KeepsFact F.pre F.post) }
@@ -94,7 +94,8 @@ impl<F: Fn(i64) -> i64> Control<F> {
         }
     }
 
-    /// Whether the lease is another than was told last. Most often it is not; then no answer is made.
+    /// Whether the lease differs from the one that the servo was last given. Most often it does not; then no answer is
+    /// made.
     pub fn owes_lease(&self, fresh: bool) -> bool
         ensures { result ≡ false → HasNothing F.post self.now (lease_call fresh) }
     {
@@ -104,7 +105,7 @@ impl<F: Fn(i64) -> i64> Control<F> {
         }
     }
 
-    /// The lease, where it is another than was told last.
+    /// Gives the servo the lease, if it differs from the one last given.
     pub fn lease(&mut self, fresh: bool) -> ServoOut
         requires law { KeepsLaw F.pre F.post self.old }
         ensures law { KeepsLaw F.pre F.post self.new }
@@ -119,7 +120,7 @@ impl<F: Fn(i64) -> i64> Control<F> {
         }
     }
 
-    /// Whether the link, on or off, is another than was told last.
+    /// Whether the link, on or off, differs from what the servo was last given.
     pub fn owes_link(&self, on: Option<Deltas>) -> bool
         ensures { result ≡ false → HasNothing F.post self.now (link_call on) }
     {
@@ -129,7 +130,7 @@ impl<F: Fn(i64) -> i64> Control<F> {
         }
     }
 
-    /// The link, on with its four delays or off, where this is another than was told last.
+    /// Gives the servo the link, on with its four delays or off, if this differs from what it was last given.
     pub fn link(&mut self, on: Option<Deltas>) -> ServoOut
         requires law { KeepsLaw F.pre F.post self.old }
         ensures law { KeepsLaw F.pre F.post self.new }
@@ -157,7 +158,7 @@ impl<F: Fn(i64) -> i64> Control<F> {
         }
     }
 
-    /// The node starts anew.
+    /// The node restarts.
     pub fn reset(&mut self) -> ServoOut
         requires law { KeepsLaw F.pre F.post self.old }
         ensures law { KeepsLaw F.pre F.post self.new }
@@ -186,7 +187,7 @@ impl<F: Fn(i64) -> i64> Control<F> {
         }
     }
 
-    /// The state of the servo; UNINIT where there is none.
+    /// The state of the servo; UNINIT if there is none.
     pub fn state(&self) -> ServoState
         ensures { result ≡ state_in self.now.told }
     {
@@ -196,7 +197,7 @@ impl<F: Fn(i64) -> i64> Control<F> {
         }
     }
 
-    /// Whether the lock detector is locked; false where there is none.
+    /// Whether the lock detector is locked; false if there is none.
     pub fn locked(&self) -> bool
         ensures { result ≡ locked_in self.now.told }
     {
@@ -216,7 +217,7 @@ impl<F: Fn(i64) -> i64> Control<F> {
         }
     }
 
-    /// The last DAC value; the bias where there is no servo.
+    /// The last DAC value; the bias if there is no servo.
     pub fn dac(&self) -> u16
         ensures { result ≡ dac_in self.now.bias self.now.told }
     {
@@ -226,8 +227,8 @@ impl<F: Fn(i64) -> i64> Control<F> {
         }
     }
 
-    /// The offset from the parent, in tau, in TRACK alone. None where the node has no servo, where its
-    /// servo is in another state, and where it has no measurement to reckon from; nothing changes.
+    /// The offset from the parent, in tau, in TRACK alone. None if the node has no servo, if its servo
+    /// is in another state, or if it has no measurement to reckon from; nothing changes.
     pub fn tracked(&self) -> Option<Tau>
         ensures { result ≡ tracked_in self.now.told }
     {

@@ -24,7 +24,7 @@ impl Parts {
         }
     }
 
-    /// Starts anew; the counters stay.
+    /// Restarts; the counters stay.
     pub fn reset(&mut self)
         ensures { Leads parts_reset self.old self.new }
     {
@@ -52,8 +52,8 @@ impl Parts {
         }
     }
 
-    /// The four delays of the slave port's link, where it is in WR_LINK_ON. None where the link is in
-    /// another state, and where the node has no slave port; nothing changes.
+    /// The four delays of the slave port's link, if it is in WR_LINK_ON. None if the link is in another
+    /// state, or if the node has no slave port; nothing changes.
     pub fn deltas(&self) -> Option<Deltas>
         ensures { TellsDeltas self.now result }
     {
@@ -83,7 +83,7 @@ impl Parts {
         }
     }
 
-    /// Whether a number is that of one of the ports.
+    /// Whether one of the ports has this number.
     pub fn has_port(&self, port: u16) -> bool
         ensures { result ≡ is_among port self.now.ports }
     {
@@ -112,11 +112,11 @@ impl Parts {
         }
     }
 
-    /// Hands a message to the port that it came to. It is dropped and counted, or taken; answers the
-    /// four stamps of the measurement that it may make. None where it is dropped whatever its kind
-    /// (reasons 9 to 12): then the port counts it, and nothing else changes. None where it is taken and
-    /// makes no measurement: then the port was told it, and counts it if it was of no use there. None
-    /// where no port has the number: then nothing changes.
+    /// Hands a message to the port at which it arrived. It is dropped and counted, or taken. Returns the
+    /// four stamps of the measurement that it makes, if it makes one. Returns None if it is dropped
+    /// whatever its kind (reasons 9 to 12): then the port counts it, and nothing else changes. Returns
+    /// None if it is taken and makes no measurement: then the port was given it, and counts it if it was
+    /// of no use there. Returns None if no port has the number: then nothing changes.
     pub fn hear(&mut self, port: u16, message: &PtpMsg, raw: &Raw, sample: u32) -> Option<Four>
         requires sound { IsSound message.now }
         requires raw { FitsRaw raw.now }

@@ -13,7 +13,7 @@ pub struct NodeSet {
     pub own: DefaultDs,
     /// Its ports, of different numbers, at most one of them a slave.
     pub ports: ArrayVec<PortDs, 18>,
-    /// The numbers of link setup; `wr` is that of each port.
+    /// The numbers of link setup; each port has its own `wr`.
     pub link: LinkSet,
     /// The counts of each port's schedule and of the lease.
     pub sched: Sched,
@@ -50,7 +50,7 @@ pub enum Input {
         /// The number of the last sample at its reception.
         sample: u32,
     },
-    /// The sending of one of the node's frames is told.
+    /// One of the node's frames was sent.
     Sent {
         /// The port that sent it.
         port: u16,
@@ -67,24 +67,24 @@ pub enum Input {
         port: u16,
         /// Whether it comes.
         up: bool,
-        /// The port's module, where the calibration database lists it.
+        /// The port's module, if the calibration database lists it.
         module: Option<Module>,
     },
-    /// The node starts anew.
+    /// The node restarts.
     Reset,
 }
 
 /// What a node reports of itself.
 #[derive(Clone, Copy, Debug, PartialEq, Eq)]
 pub enum Report {
-    /// The word of a port, where it is another than before.
+    /// The word of a port, if it differs from the one before.
     Link {
         /// The port.
         port: u16,
         /// Its word.
         word: LinkWord,
     },
-    /// The state of the servo, where it is another than before.
+    /// The state of the servo, if it differs from the one before.
     Servo(ServoState),
     /// The node is in TRACK.
     Track {

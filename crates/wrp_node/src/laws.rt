@@ -19,13 +19,13 @@ pub fn step_settles()
     ensures { StepSettles }
 {}
 
-/// A step gives the link of each port what the input is to it: a tick to all, a frame or a
-/// carrier to the one that it came to, a new beginning at a reset, and nothing else.
+/// A step gives the link of each port what the input is to it: a tick to all, a frame or a carrier to
+/// the link at which it arrived, a new beginning at a reset, and nothing else.
 pub fn step_gives_links()
     ensures { StepGivesLinks }
 {}
 
-/// The Signaling messages that a port sends at a step are those that its link sends at what the
+/// The Signaling messages that a port sends at a step are the ones that its link sends after what the
 /// step gives it, in their order, and no others.
 pub fn signals_are_of_link()
     ensures { SignalsAreOfLink }
@@ -37,8 +37,8 @@ pub fn sends_are_put_out()
     ensures { SendsArePutOut }
 {}
 
-/// Between inputs a chain of the servo stands exactly where a call started it and none after that
-/// ended it or restarted the loop; and with it the lock detector is locked.
+/// Between inputs, the servo has a chain if and only if a call started one and no later call ended it or
+/// restarted the loop. While it has a chain, the lock detector is locked.
 pub fn chain_is_unbroken()
     ensures since { ChainIsUnbroken }
     ensures locked { ChainIsLocked }
@@ -49,8 +49,8 @@ pub fn chain_is_unbroken()
     phase_is_sum();
 }
 
-/// The same inputs give the same outputs and the same node: what octets say is one, and so is
-/// what the law answers, where it is asked.
+/// The same inputs give the same outputs and the same node: octets have one reading, and the law gives
+/// one answer when it is asked.
 pub fn one_run()
     ensures run { OneRun }
     ensures node { OneNode }

@@ -1,4 +1,4 @@
-//! A whole White Rabbit node but its hardware: octets and stamps in, frames, clock commands and
+//! A whole White Rabbit node except its hardware: octets and stamps in, frames, clock commands and
 //! reports out (IEEE 1588-2019 and the White Rabbit Specification 2.0 in this project's profile).
 #![tactic(auto)]
 

@@ -38,7 +38,7 @@ impl<F> Model for Node<F> {
 
 impl<F: Fn(i64) -> i64> Node<F> {
     /// Takes an input, and fills `outs` with what the node gives, in order: a step of the clock, a DAC
-    /// value, the servo's state where it changed, for each port in ascending order its word where it
+    /// value, the servo's state if it changed, for each port in ascending order its word if it
     /// changed and its frames, and a track report; at most 96. What `outs` had before is gone.
     pub fn step_into(&mut self, x: &Input, outs: &mut Outputs)
         requires valid { IsValid F.pre F.post self.old }
@@ -57,7 +57,7 @@ impl<F: Fn(i64) -> i64> Node<F> {
         self.put_out(before, is_tick(x), outs);
     }
 
-    /// Takes an input, and answers what the node gives: as `step_into`, into outputs of its own.
+    /// Takes an input, and returns what the node gives: as `step_into`, into outputs of its own.
     pub fn step(&mut self, x: &Input) -> Outputs
         requires valid { IsValid F.pre F.post self.old }
         requires input { FitsInput self.old x.now }

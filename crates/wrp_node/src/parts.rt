@@ -1,4 +1,4 @@
-//! A node but its servo: the ports, the tick count, and what the present input commands.
+//! A node without its servo: the ports, the tick count, and what the present input commands.
 ghost use Rattle.std.specs.Prelude.{◌≡◌, map};
 ghost use Rattle.wrp_data.specs.Reason.{IsReason};
 ghost use Rattle.wrp_node.specs.Parts.{Begun, Leads, AnswerTaken, given, told_only, slave_told, reason_counted, commanded};
@@ -25,7 +25,7 @@ pub struct Parts {
     pub ticks: u32,
     /// The step of the clock, in periods; 0 for none.
     pub cycles: i64,
-    /// The DAC value, where it is a new one.
+    /// The DAC value, if there is a new one.
     pub dac: Option<u16>,
 }
 
@@ -41,7 +41,7 @@ impl Parts {
         self.dac = None;
     }
 
-    /// Tells some ports an input.
+    /// Gives an input to some ports.
     pub fn give(&mut self, to: To, input: &PortIn)
         requires { IsFit input.now }
         ensures { Leads (given to input.now) self.old self.new }
@@ -60,7 +60,7 @@ impl Parts {
     }
 
     /// Takes what the servo answered to a call: its news go to the slave port, its refusal to the
-    /// counters. `number` is that of the sample, where the call was one.
+    /// counters. `number` is the number of the sample, if the call was a sample.
     pub fn take_answer(&mut self, out: &ServoOut, number: u32)
         requires { IsReason out.now.refused }
         ensures { AnswerTaken out.now number self.old self.new }
@@ -69,7 +69,7 @@ impl Parts {
         self.command(out);
     }
 
-    // What the slave port is told of it.
+    // Gives the slave port its part of the answer.
     fn tell_slave(&mut self, out: &ServoOut, number: u32)
         requires { IsReason out.now.refused }
         ensures { Leads (slave_told out.now number) self.old self.new }

@@ -36,12 +36,12 @@ pub struct PortPlace {
     pub word: LinkWord,
     /// What the input makes it send.
     pub sends: ArrayVec<PtpMsg, 4>,
-    /// What it lends to the port for its answer; from there the measurement is read that a message made.
+    /// What it lends to the port for its answer; the measurement that a message made is read from there.
     pub lent: PortOut,
 }
 
 impl PortPlace {
-    /// A port that was told nothing, and counted nothing.
+    /// A port that was given no input, and counted nothing.
     pub fn new(number: u16, port: Port) -> PortPlace
         ensures number { result.number ≡ number }
         ensures port { result.port ≡ port }
@@ -66,7 +66,7 @@ impl PortPlace {
         self.sends.clear();
     }
 
-    /// Tells the port an input. Those that come most often have a call of their own, which copies less.
+    /// Gives the port an input. The most frequent inputs have a call of their own, which copies less.
     pub fn tell(&mut self, input: &PortIn)
         requires { IsFit input.now }
         ensures { Gives input.now self.old self.new }
@@ -79,7 +79,7 @@ impl PortPlace {
         }
     }
 
-    // Tells the port an input of whatever kind.
+    // Gives the port an input of any kind.
     fn tell_other(&mut self, input: &PortIn)
         requires { IsFit input.now }
         ensures { Gives input.now self.old self.new }
@@ -89,7 +89,7 @@ impl PortPlace {
         self.keep();
     }
 
-    // Tells the port a tick.
+    // Gives the port a tick.
     fn tick(&mut self, locked: bool, certain: bool)
         ensures { Gives (port.Tick locked certain) self.old self.new }
     {
@@ -104,7 +104,7 @@ impl PortPlace {
         self.port.turn_lease();
     }
 
-    // Tells the port a good sample.
+    // Gives the port a good sample.
     fn take_sample(&mut self, n: u32, u: i64)
         ensures { Gives (port.Sample n u) self.old self.new }
     {
@@ -156,7 +156,7 @@ impl PortPlace {
         stamp_of(merge(raw, self.transition(), clock), sample)
     }
 
-    // The transition of its module, round the period; 0 where the module is not listed.
+    // The transition of its module, round the period; 0 if the module is not listed.
     fn transition(&self) -> u16
         ensures value { result ≡ transition_in (Some self.now) }
         ensures below { result < 16384 }
@@ -174,7 +174,7 @@ impl PortPlace {
         self.counters.count(reason);
     }
 
-    /// Puts out its word, where it changed, and its frames.
+    /// Puts out its word, if it changed, and its frames.
     pub fn put_out(&self, outs: &mut Outputs)
         requires sound { AllByRecursion IsSound self.now.sends.items }
         requires room { length outs.old.items + 5 ≤ 96 }
@@ -186,7 +186,7 @@ impl PortPlace {
         self.put_frames(outs);
     }
 
-    // Puts out its word, where it changed.
+    // Puts out its word, if it changed.
     fn put_word(&self, outs: &mut Outputs)
         requires room { length outs.old.items + 1 ≤ 96 }
         ensures items { outs.new.items ≡ outs.old.items

@@ -1,4 +1,4 @@
-//! The ports of a node, in ascending order, and what they were told.
+//! The ports of a node, in ascending order, and the inputs that each was given.
 mod index;
 mod states;
 
@@ -71,7 +71,7 @@ impl Ports {
         }
     }
 
-    /// Tells some ports an input.
+    /// Gives an input to some ports.
     pub fn give(&mut self, to: To, input: &PortIn)
         requires { IsFit input.now }
         ensures { AllZip (GivesTo to input.now) self.old self.new }
@@ -82,7 +82,7 @@ impl Ports {
         }
     }
 
-    // Tells every port an input.
+    // Gives an input to every port.
     fn give_every(&mut self, input: &PortIn)
         requires { IsFit input.now }
         ensures { AllZip (GivesTo Every input.now) self.old self.new }
@@ -92,7 +92,7 @@ impl Ports {
         }
     }
 
-    // Tells the port of a number an input.
+    // Gives an input to the port with a number.
     fn give_one(&mut self, number: u16, input: &PortIn)
         requires { IsFit input.now }
         ensures { AllZip (GivesTo (One number) input.now) self.old self.new }
@@ -102,10 +102,11 @@ impl Ports {
         }
     }
 
-    /// Hands a message that came to the port of a number, which is looked up once: with the stamp of its
-    /// reception there and the node's tick count. Answers the measurement that it may make. None where
-    /// no port has the number: then nothing changes. None where the message makes no measurement: then
-    /// the port was told it, and counts it if it drops it.
+    /// Hands a message to the port with this number, at which it arrived. The port is looked up once.
+    /// The message comes with the stamp of its reception there and the node's tick count. Returns the
+    /// measurement that it makes, if it makes one. Returns None if no port has the number: then nothing
+    /// changes. Returns None also if the message makes no measurement: then the port was given it, and
+    /// counts it if it drops it.
     pub fn hear(
         &mut self,
         number: u16,
@@ -140,7 +141,7 @@ impl Ports {
         }
     }
 
-    /// The port of a number; None where no port has it.
+    /// The port of a number; None if no port has it.
     pub fn place(&self, number: u16) -> Option<&PortPlace>
         ensures { option_map (λ place. place.now) result ≡ place_of number self.now }
     {
@@ -150,7 +151,7 @@ impl Ports {
         }
     }
 
-    // Where the port of a number stands: by the index, which knows the numbers from 1 to 18.
+    // The place of the port with a number: by the index, which knows the numbers from 1 to 18.
     fn at(&self, number: u16) -> Option<u8>
         ensures { IsWhere number (numbers_in self.now) result }
     {
@@ -161,7 +162,7 @@ impl Ports {
         }
     }
 
-    /// Puts out what each port has to put out, in ascending order.
+    /// Puts out what each port has to put out, in ascending order of the ports.
     pub fn put_out(&self, outs: &mut Outputs)
         requires sound { AllByRecursion (λ place. AllByRecursion IsSound place.sends.items) self.now }
         requires room { length outs.old.items ≤ 5 }

@@ -31,7 +31,7 @@ pub fn node_set(net: &NetCfg, n: u8) -> NodeSet
     requires node { n < node_count net.now }
     ensures value { result ≡ spec.set_of net.now n }
     ensures fits { FitsNodeSet result }
-    // It has a slave port exactly where it has a link above it.
+    // It has a slave port if and only if it has a link above it.
     ensures has_slave { is_some (slave_of result) ≡ is_some (network.link_above net.now n) }
     ensures slave { slave_of result ≡ option_map (λ link. link.lower_port) (network.link_above net.now n) }
     ensures one_slave { length (filter (λ ds. is_slave ds.role) result.ports.items) ≤ 1 }

@@ -3,8 +3,8 @@
 ghost use Rattle.wrp_node.specs.SetLaws.{EndsAreSet};
 ghost use Rattle.wrp_node.specs.SetRows.{WorkedSets};
 
-/// At each end of a link stands a port of the node there, with this number: it is the master at the
-/// upper end and the slave at the lower end, and its peer is the port at the other end.
+/// At each end of a link the node there has a port with this number. It is the master at the upper end
+/// and the slave at the lower end, and its peer is the port at the other end.
 pub fn ends_are_set()
     ensures { EndsAreSet }
 {}

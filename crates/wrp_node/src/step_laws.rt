@@ -1,8 +1,7 @@
 //! Laws of each step: functions that do nothing, whose contracts are the laws.
 ghost use Rattle.wrp_node.specs.StepLaws.{CommandsAreHeld, OnlyFramesSay, SendsAreFew, TicksAreCounted};
 
-/// What is noted beside an input that is no frame, as said by octets or as answered by the law, is of
-/// no account.
+/// What is noted beside an input that is no frame, as said by octets or as answered by the law, has no effect.
 pub fn only_frames_say()
     ensures { OnlyFramesSay }
 {}
@@ -17,7 +16,7 @@ pub fn sends_are_few()
     ensures { SendsAreFew }
 {}
 
-/// A tick counts one, a reset counts anew, and no other input changes the count.
+/// A tick adds one to the count, a reset restarts it, and no other input changes it.
 pub fn ticks_are_counted()
     ensures { TicksAreCounted }
 {}

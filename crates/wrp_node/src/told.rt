@@ -1,4 +1,4 @@
-//! A servo, and what it was told last of the lease and of the link.
+//! A servo, with the lease and the link that it was last given.
 ghost use Rattle.std.specs.Prelude.{◌≡◌, ◌+◌, ◌<◌, ◌^◌, ℤ, [], false};
 ghost use Rattle.wrp_data.specs.Reason.{IsReason};
 ghost use Rattle.wrp_law.specs.Law.{KeepsFact};
@@ -17,9 +17,9 @@ use wrp_servo::{Servo, ServoOut, ServoSet};
 pub struct Told<F> {
     /// The servo.
     pub servo: Servo<F>,
-    /// Whether it was told last that the lease is fresh.
+    /// Whether the lease that it was last given is fresh.
     pub lease: bool,
-    /// Whether it was told last that the link is on.
+    /// Whether the link that it was last given is on.
     pub link: bool,
 }
 
@@ -98,7 +98,7 @@ impl<F: Fn(i64) -> i64> Told<F> {
         self.servo.carrier(up)
     }
 
-    /// The node starts anew.
+    /// The node restarts.
     pub fn reset(&mut self) -> ServoOut
         ensures law { self.new.servo.law ≡ self.old.servo.law }
         ensures calls { AddsTold F.post self.old self.new CallReset result }

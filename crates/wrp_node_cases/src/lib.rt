@@ -1,5 +1,5 @@
-//! `wrp_node_cases`: cases on a node, and on a port and a servo by themselves. For each line of a case's input is due
-//! what comes of it, a line each (`told`). The program `wrp_run_cases` has the cases, in `data/node/`.
+//! `wrp_node_cases`: cases on a node, and on a port and a servo by themselves. For each line of a case's input, what
+//! follows from it is expected, a line each (`told`). The program `wrp_run_cases` has the cases, in `data/node/`.
 #![tactic(auto)]
 
 mod names;

@@ -1,6 +1,6 @@
-//! Cases on a node. Its word names the node (`sets`); the law of its link, where it has a slave port, is that both ways
+//! Cases on a node. Its word names the node (`sets`); the law of its link, if it has a slave port, is that both ways
 //! are equal. A line of the input is what happens at the node, as `replay` takes it, and what the node puts out is
-//! told; behind all lines come the counters that are not 0 (`inputs` and `lines` have both).
+//! printed; after all lines come the counters that are not 0 (`inputs` and `lines` have both).
 ghost use Rattle.std.specs.Prelude.{◌≡◌, ◌≤◌, ◌^◌, unsigned_abs, IfOk};
 ghost use Rattle.wrp_law.specs.Law.{KeepsFact};
 ghost use Rattle.wrp_node.specs.Node.{IsValid};
@@ -66,7 +66,7 @@ fn take_lines<F: Fn(i64) -> i64>(
     Ok(())
 }
 
-// What comes of the inputs of a node with this law.
+// What follows from the inputs of a node with this law.
 fn answer_by<F: Fn(i64) -> i64>(
     alloc: Global,
     case: &Case,
@@ -84,7 +84,7 @@ fn answer_by<F: Fn(i64) -> i64>(
     Ok(told.answer())
 }
 
-/// What comes of the inputs of a node.
+/// What follows from the inputs of a node.
 pub fn answer(alloc: Global, case: &Case) -> Result<Answer, Fault> {
     let law = DelayLaw::new(
         |x: i64|

@@ -1,6 +1,6 @@
 //! Cases on a port. Its words are the role, the ticks from one Announce to the next, and the ticks from one Sync or
 //! Delay_Req to the next, each at least 1. A line of the input is what happens at the port, and what it answers is
-//! told (`inputs` and `lines` have both).
+//! printed (`inputs` and `lines` have both).
 mod heard;
 mod inputs;
 mod lines;
@@ -79,7 +79,7 @@ fn port_of(alloc: Global, case: &Case) -> Result<Port, Fault> {
     Ok(Port::new(alloc, ds, NODE, LINK, sched, RING)?)
 }
 
-/// What comes of the inputs of a port.
+/// What follows from the inputs of a port.
 pub fn answer(alloc: Global, case: &Case) -> Result<Answer, Fault> {
     let mut port = port_of(alloc, case)?;
     let mut told = Told::new(alloc);

@@ -1,5 +1,5 @@
 //! Cases on a servo. Its word names its settings (`sets`); its law is that both ways of a link are equal. A line of the
-//! input is a call (`calls`), and what it answers is told; or `state`, and what stands then is told (`lines`).
+//! input is a call (`calls`), whose answer is printed; or `state`, and what the servo then holds is printed (`lines`).
 ghost use Rattle.std.specs.Prelude.{◌≡◌, ◌≤◌, ◌+◌, ◌^◌, unsigned_abs};
 ghost use Rattle.wrp_law.specs.Law.{KeepsFact};
 
@@ -63,7 +63,7 @@ fn take_lines<F: Fn(i64) -> i64>(
     Ok(())
 }
 
-// What comes of the calls of a servo with this law.
+// What follows from the calls of a servo with this law.
 fn answer_by<F: Fn(i64) -> i64>(
     alloc: Global,
     case: &Case,
@@ -77,7 +77,7 @@ fn answer_by<F: Fn(i64) -> i64>(
     Ok(told.answer())
 }
 
-/// What comes of the calls of a servo.
+/// What follows from the calls of a servo.
 pub fn answer(alloc: Global, case: &Case) -> Result<Answer, Fault> {
     let law = DelayLaw::new(
         |x: i64|

@@ -1,13 +1,13 @@
-//! What is told of a case: for each line of its input what came of it, a line each, all but the first with `and` before
-//! it; or `-` where nothing came.
+//! What is printed of a case: for each line of its input what followed from it, a line each, all but the first with
+//! `and` before it; or `-` if nothing followed.
 use std::alloc::{AllocError, Global};
 use wrp_suite::{Answer, Case, Fault};
 
-/// What came of the lines so far.
+/// What followed from the lines so far.
 #[derive(Drop)]
 pub struct Told {
     text: String,
-    // Whether something came of the newest line.
+    // Whether something followed from the newest line.
     some: bool,
 }
 
@@ -20,7 +20,7 @@ impl Told {
         }
     }
 
-    /// Something came of the newest line.
+    /// Something followed from the newest line.
     pub fn push(&mut self, what: &str) -> Result<(), AllocError> {
         if self.some {
             self.text.push_str("and ")?;
@@ -31,7 +31,7 @@ impl Told {
         Ok(())
     }
 
-    /// Nothing more comes of the newest line.
+    /// Nothing more follows from the newest line.
     pub fn end(&mut self) -> Result<(), AllocError> {
         if !self.some {
             self.text.push_str("-\n")?;
@@ -40,7 +40,7 @@ impl Told {
         Ok(())
     }
 
-    /// What a case answers that is told so.
+    /// What a case answers with this text.
     pub fn answer(self) -> Answer {
         Answer::of(0, self.text)
     }

@@ -1,7 +1,8 @@
-//! `pi`: the words are kp, ki and bias of a loop, and the numbers are its errors (`machines`). The DAC value after each is due.
+//! `pi`: the words are kp, ki and bias of a loop, and the numbers are its errors (`machines`). The DAC value after each
+//! is expected.
 //!
-//! `lock`: the words are threshold, lock and delock of a lock detector, and the numbers are its errors. After each is due
-//! whether it is locked: 1, or 0.
+//! `lock`: the words are threshold, lock and delock of a lock detector, and the numbers are its errors. After each, 1
+//! is expected if it is locked, else 0.
 use crate::machines::{Machine, answer_of};
 use crate::words::number_of;
 use std::alloc::Global;

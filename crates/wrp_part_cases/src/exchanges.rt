@@ -8,8 +8,8 @@
 //!     req_sent SEQ T3 SAMPLE TICK               the sending of a Delay_Req
 //!     resp SEQ T4                               a Delay_Resp
 //!
-//! For the pieces `kept` or `not kept` is due, and behind each call that changes it the matched four:
-//! `four T1 T2 T3 T4 U2 U3 TICK`, or `four none`. At first there is none.
+//! For each piece `kept` or `not kept` is expected, and after each call that changes it the matched
+//! four: `four T1 T2 T3 T4 U2 U3 TICK`, or `four none`. At first there is none.
 ghost use Rattle.std.specs.Prelude.{◌^◌, ◌<◌, unsigned_abs, IfOk};
 
 use crate::words::{Words, input_of, number_of, only_word};
@@ -18,7 +18,7 @@ use wrp_base::{Four, Stamp, Tau};
 use wrp_exch::Exchange;
 use wrp_suite::{Answer, Case, Fault};
 
-// The exchange that a word tells.
+// The exchange that a word gives.
 fn exchange_of(alloc: Global, word: &str) -> Result<Exchange, Fault> {
     let ring = number_of::<usize>(word)?;
     if ring < 1 || 4096 < ring {
@@ -96,7 +96,7 @@ fn sample(exchange: &mut Exchange, words: &mut Words<'_>) -> Result<(), Fault> {
     Ok(())
 }
 
-// Makes the call of a line. Answers whether its piece was kept, where it is one.
+// Makes the call of a line. Returns whether its piece was kept, if it is one.
 fn make(exchange: &mut Exchange, line: &str) -> Result<Option<bool>, Fault> {
     let mut words = Words::of(line);
     let mut kept = None;
@@ -112,7 +112,7 @@ fn make(exchange: &mut Exchange, line: &str) -> Result<Option<bool>, Fault> {
     Ok(kept)
 }
 
-// What is told of a call: whether its piece was kept, where it is one.
+// What is printed of a call: whether its piece was kept, if it is one.
 fn kept_text(kept: Option<bool>) -> &'static str {
     match kept {
         Some(true) => "kept\n",

@@ -1,5 +1,5 @@
-//! `frame`: the input is the octets of a frame. The number of their fault is due, or the message that they spell and the
-//! octets that it is sent as.
+//! `frame`: the input is the octets of a frame. The number of their fault is expected, or the message that they spell
+//! and the octets that it is sent as.
 ghost use Rattle.wrp_base.specs.Message.{IsSound};
 
 use crate::printing::{push_body, push_head, push_octets};

@@ -1,5 +1,5 @@
-//! `wrp_part_cases`: cases on the calls of the crates below a port: frames, TLVs, numbers, laws, phases, a loop and
-//! its lock detector, a link, verdicts on handshakes and exchanges. Each module tells what a case of its kind says. The
+//! `wrp_part_cases`: cases on the calls of the crates below a port: frames, TLVs, numbers, laws, phases, a loop and its
+//! lock detector, a link, verdicts on handshakes and exchanges. Each module describes the cases of its kind. The
 //! program `wrp_run_cases` has the cases, in `data/part/`.
 #![tactic(auto)]
 

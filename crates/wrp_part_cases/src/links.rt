@@ -7,9 +7,9 @@
 //!     announce FLAGS             an Announce with these wrFlags, in hex; `announce none` is one without suffix
 //!     MESSAGE                    a White Rabbit message
 //!
-//! For each is due a line with the word of the port after it, then `unused` where it was of no use, `to STATE` where
-//! the state changed, and `sends MESSAGE` for each message that it sends. Behind them is due a line with the state, the
-//! deltas of the peer and the own module.
+//! For each, a line is expected with the word of the port after it, then `unused` if it was of no use, `to STATE` if
+//! the state changed, and `sends MESSAGE` for each message that it sends. After them a line with the state, the deltas
+//! of the peer and the own module is expected.
 use crate::messages::{message_of, push_message};
 use crate::states::{state_text, word_text};
 use crate::words::{Words, input_of, number_of, role_of};
@@ -27,7 +27,7 @@ fn wr_of(word: &str) -> Result<bool, Fault> {
     }
 }
 
-// The link that words tell.
+// The link that words give.
 fn link_of(words: &[String]) -> Result<Link, Fault> {
     let [role, quiet, wait, lock_wait, retries, holdoff, wr] = words else {
         return Err(Fault::Input);
@@ -97,7 +97,7 @@ fn suffix_of(word: &str) -> Result<Option<u16>, Fault> {
     }
 }
 
-// The input that words tell.
+// The input that words give.
 fn input_told(words: &mut Words<'_>) -> Result<LinkIn, Fault> {
     match words.word()? {
         "up" => module_of(words).map(LinkIn::CarrierUp),
@@ -108,7 +108,7 @@ fn input_told(words: &mut Words<'_>) -> Result<LinkIn, Fault> {
     }
 }
 
-// The input that a line tells.
+// The input that a line gives.
 fn link_input(line: &str) -> Result<LinkIn, Fault> {
     let mut words = Words::of(line);
     let input = input_told(&mut words)?;

@@ -1,5 +1,5 @@
-//! A machine that takes numbers, one after the other, and forgets them at a restart. Each line of a case's input is `push N`
-//! or `restart`, and what the machine answers to each number is due.
+//! A machine that takes numbers, one after the other, and forgets them at a restart. Each line of a case's input is
+//! `push N` or `restart`, and what the machine answers to each number is expected.
 use crate::words::{Words, input_of};
 use std::alloc::Global;
 use wrp_suite::{Answer, Case, Fault};

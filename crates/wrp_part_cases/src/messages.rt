@@ -1,11 +1,11 @@
-//! White Rabbit messages in words: the name; behind it calSendPattern, calRetry and calPeriod of a CALIBRATE, and
+//! White Rabbit messages in words: the name; after it calSendPattern, calRetry and calPeriod of a CALIBRATE, and
 //! deltaTx and deltaRx of a CALIBRATED.
 use crate::words::Words;
 use std::alloc::AllocError;
 use wrp_base::WrMsg;
 use wrp_suite::Fault;
 
-/// The message of a name, with the numbers that stand behind it.
+/// The message of a name, with the numbers that follow it.
 pub fn message_of(name: &str, words: &mut Words<'_>) -> Result<WrMsg, Fault> {
     match name {
         "SLAVE_PRESENT" => Ok(WrMsg::Present),

@@ -1,7 +1,7 @@
-//! `numbers`: each line of the input is a call by its name with its numbers, and its answer is due:
+//! `numbers`: each line of the input is a call by its name with its numbers, and its answer is expected:
 //!
 //!     floor_div A B · ceil_div A B · trunc_div A B · hold A B · product A B · sum A B · difference A B · narrow A
-//!     circ A B PERIOD                             the distance round a period, which is told in ps
+//!     circ A B PERIOD                             the distance round a period, which is given in ps
 //!     merge PERIOD TRANSITION TAG RISING FALLING  a reading
 //!     deglitch BASE BITS                          a tag, or `none`; the bits in hex
 //!     floor_of KAPPA X                            the exact fraction of a law, rounded down

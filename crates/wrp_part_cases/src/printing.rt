@@ -1,5 +1,5 @@
 //! A message in lines: its kind, and a line for each field, which has the standard's name. Flags, qualities, octets and
-//! identities stand in hex. Each call appends its lines to a text.
+//! identities are in hex. Each call appends its lines to a text.
 use crate::messages::push_message;
 use std::alloc::{AllocError, Global};
 use wrp_base::{Body, PortIdentity, PtpMsg, Ts, WrMsg};

@@ -1,4 +1,4 @@
-//! `table`: the input is the points `X Y` of a table, a line `---`, and places x; the value of the table at each is due.
+//! `table`: the input is the points `X Y` of a table, a line `---`, and places x; the value at each place is expected.
 ghost use Rattle.std.specs.Prelude.{◌≤ℤ◌, IsTrue};
 ghost use Rattle.std.specs.List.{AllByRecursion};
 ghost use Rattle.wrp_law.specs.Table.{FitsPoint, Rises, last_x};
@@ -15,7 +15,7 @@ fn fits(point: (i64, i64)) -> bool
     -(1 << 30) <= point.0 && point.0 <= 1 << 53 && point.1.unsigned_abs() <= 1 << 53
 }
 
-// Whether the points are those of a table, each past the one before it and not below it, and x is not past the last.
+// Whether the points are points of a table, each past the one before it and not below it, and x is not past the last.
 fn rise_to(points: &[(i64, i64)], x: i64) -> bool
     ensures fit { IsTrue result → AllByRecursion FitsPoint points.now }
     ensures rise { IsTrue result → Rises points.now }
@@ -43,7 +43,7 @@ fn points_of(alloc: Global, lines: &str) -> Result<Vec<(i64, i64)>, Fault> {
     Ok(points)
 }
 
-// The value at the place that a line tells.
+// The value at the place that a line gives.
 fn value_at(points: &[(i64, i64)], line: &str) -> Result<i64, Fault> {
     let x = number_of::<i64>(line)?;
     if points.len() < 2 || 32 < points.len() {

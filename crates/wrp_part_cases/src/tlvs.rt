@@ -1,6 +1,6 @@
-//! `tlv`: the input is octets, and the word is a place in them. The number of the fault of the TLV there is due, or its
-//! type, the places where its value begins and ends, and of an ORGANIZATION_EXTENSION what its value says; of a White
-//! Rabbit message or suffix the TLV that it is sent as.
+//! `tlv`: the input is octets, and the word is a place in them. The number of the fault of the TLV there is expected;
+//! or its type, the places where its value begins and ends, and of an ORGANIZATION_EXTENSION what its value says; of a
+//! White Rabbit message or suffix the TLV that it is sent as.
 use crate::printing::{push_octets, push_suffix, push_wr};
 use crate::words::{number_of, only_word};
 use std::alloc::{AllocError, Global};
@@ -47,7 +47,7 @@ fn tell(alloc: Global, text: &mut String, octets: &[u8], tlv: Tlv) -> Result<(),
     }
 }
 
-// Appends what the TLV at a place is. Answers the number of its fault, and 0 where it has none.
+// Appends what the TLV at a place is. Returns the number of its fault, and 0 if it has none.
 fn tell_at(alloc: Global, text: &mut String, octets: &[u8], place: usize) -> Result<u8, Fault> {
     if octets.len() <= place {
         return Err(Fault::Condition);

@@ -1,5 +1,5 @@
-//! `unwrap`: the word is the period of the clock in ps, and the numbers are tags (`machines`). The unwrapped phase after each
-//! is due.
+//! `unwrap`: the word is the period of the clock in ps, and the numbers are tags (`machines`). The unwrapped phase
+//! after each is expected.
 ghost use Rattle.std.specs.Prelude.{◌≡◌};
 
 use crate::machines::{Machine, answer_of};
@@ -28,7 +28,7 @@ impl Phase {
 }
 
 impl Machine for Phase {
-    // Takes a tag, where the phase is below `2^60` tau on either side.
+    // Takes a tag, if the phase is below `2^60` tau on either side.
     fn push(&mut self, number: i64) -> Result<i64, Fault> {
         let tag = u16::try_from(number).ok().ok_or(Fault::Number)?;
         if self.answer.unsigned_abs() >= 1 << 60 {

@@ -1,6 +1,6 @@
 //! `verdict`: the word is the role of a port, and the input is its history, a line `---`, and the history of its peer.
-//! Each line of a history is `AT FROM TO`, the time of a change and the states before and after it; behind them may
-//! stand the sending time and the words of the message that moved the port. The verdict on the port is due.
+//! Each line of a history is `AT FROM TO`, the time of a change and the states before and after it; after them may
+//! come the sending time and the words of the message that moved the port. The verdict on the port is expected.
 use crate::messages::message_of;
 use crate::states::{state_of, state_text};
 use crate::words::{Words, halves_of, only_word, role_of};
@@ -24,7 +24,7 @@ fn next_state(words: &mut Words<'_>) -> Result<LinkState, Fault> {
     state_of(words.word()?)
 }
 
-// The change that a line tells.
+// The change that a line gives.
 fn mark_of(line: &str) -> Result<Mark, Fault> {
     let mut words = Words::of(line);
     let at = words.number::<i128>()?;
@@ -35,7 +35,7 @@ fn mark_of(line: &str) -> Result<Mark, Fault> {
     Ok(Mark { at, from, to, by })
 }
 
-// The history that lines tell.
+// The history that lines give.
 fn history_of(alloc: Global, lines: &str) -> Result<Vec<Mark>, Fault> {
     let mut marks = Vec::new(alloc);
     for line in lines.split_terminator('\n') {

@@ -8,12 +8,12 @@ pub fn input_of(case: &Case) -> Result<&str, Fault> {
     str::from_utf8(&case.input).ok().ok_or(Fault::Input)
 }
 
-/// The parts of the input of a case before and behind its line `---`.
+/// The parts of the input of a case before and after its line `---`.
 pub fn halves_of(case: &Case) -> Result<(&str, &str), Fault> {
     input_of(case)?.split_once("---\n").ok_or(Fault::Input)
 }
 
-/// The words of a case, where it has one alone.
+/// The word of a case that has exactly one.
 pub fn only_word(case: &Case) -> Result<&str, Fault> {
     match case.words.as_slice() {
         [word] => Ok(word.as_str()),
@@ -39,7 +39,7 @@ pub fn role_of(word: &str) -> Result<Role, Fault> {
     }
 }
 
-/// The number that a word tells.
+/// The number that a word gives.
 pub fn number_of<N: FromStr>(word: &str) -> Result<N, Fault>
 where
     N::Err: Drop,
@@ -47,7 +47,7 @@ where
     word.parse::<N>().ok().ok_or(Fault::Number)
 }
 
-/// The words of a line that are not taken yet; one space stands between two.
+/// The words of a line that are not taken yet; there is one space between two.
 #[derive(Drop)]
 pub struct Words<'a> {
     rest: Option<&'a str>,

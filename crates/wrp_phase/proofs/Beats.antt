@@ -10,7 +10,7 @@ use Rattle.std.specs.Int.RustNames.{count_ones}
 use Rattle.wrp_phase.specs.Beat.{beat_bit}
 use lib.Count.{ones, ones_step, ones-le, count_leading_zeros}
 
--- where each bit below t is 1, t of them are counted
+-- if each bit below t is 1, t of them are counted
 ones-low : (t n : ℕ) → ((j : ℕ) → j < t → bit_at n j ≡ 1) → t ≤ ones n
 ones-low zero n each = omega arith
 ones-low (suc t) n each =
@@ -18,7 +18,7 @@ ones-low (suc t) n each =
     let lowest : n % 2 ≡ 1 = sym (bit_at_lowest n) ∙ each 0 (omega arith) in
     omega (arith, ones_step n)
 
--- where each bit from t on is 0, at most t of them are counted
+-- if each bit from t on is 0, at most t of them are counted
 ones-high : (k t n : ℕ) → n < 2 ^ k → ((j : ℕ) → t ≤ j → j < k → bit_at n j ≡ 0) → ones n ≤ t
 ones-high zero t n h each = omega (arith, ones-le 0 n h)
 ones-high (suc k) zero n h each =
@@ -41,7 +41,7 @@ ones-complement (suc k) n h =
     let others : (2 ^ suc k - 1 - n) / 2 ≡ 2 ^ k - 1 - n / 2 = omega (arith, pow-suc 2 k) in
     omega (arith, ones_step n, ones_step (2 ^ suc k - 1 - n), ap ones others)
 
--- the zero bits of a sample are those that are not ones
+-- the zero bits of a sample are the bits that are not ones
 zeros-ones : (bits : ℕ) → bits < 2 ^ 64 → count_ones bits + count_zeros w64 bits ≡ 64
 zeros-ones bits h = ones-complement 64 bits h
 
@@ -52,7 +52,7 @@ bit_at-place bits j b h is =
     let place : 63 - (63 - j) ≡ j = omega arith in
     subst P place is
 
--- where each beat bit from the place x on is 1, and the first is 0, at most x of them are zeros
+-- if each beat bit from the place x on is 1, and the first is 0, at most x of them are zeros
 pub zeros-most : (bits : ℕ) (x : ℤ) → bits < 2 ^ 64 → beat_bit bits 0 ≡ 0 → ((i : ℕ) → i < 64 → x ≤ℤ pos i → beat_bit bits i ≡ 1) → pos (count_zeros w64 bits) ≤ℤ x
 zeros-most bits (negsuc x) h first each =
     let one : beat_bit bits 0 ≡ 1 = each 0 (omega arith) (omega (arith, ints)) in
@@ -65,7 +65,7 @@ zeros-most bits (pos x) h first each = elim (cases_lt x 64) [
   | inr p ↦ omega (arith, ints, zeros-ones bits h)
 ]
 
--- where each beat bit before the place x is 0, and the last is 1, at least x of them are zeros
+-- if each beat bit before the place x is 0, and the last is 1, at least x of them are zeros
 pub zeros-least : (bits : ℕ) (x : ℤ) → bits < 2 ^ 64 → beat_bit bits 63 ≡ 1 → ((i : ℕ) → i < 64 → pos i <ℤ x → beat_bit bits i ≡ 0) → x ≤ℤ pos (count_zeros w64 bits)
 zeros-least bits (negsuc x) h last each = omega (arith, ints)
 zeros-least bits (pos x) h last each = elim (cases_lt 63 x) [

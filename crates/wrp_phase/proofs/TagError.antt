@@ -24,7 +24,8 @@ past_is : (step base : ℕ) → base < steps_of_period → steps_past step base 
 past_is step base h = ap (λ z. z -ℤ pos 8_192)
     (int_rem_euclid_is ((pos step -ℤ pos base) +ℤ pos 8_192) (pos 16_384) 16_384 1 (step + 24_576 - base) (omega (arith, ints)) refl (omega (arith, ints)))
 
--- a count of steps from the base that is within `beat` of those to the step of a time in its period gives a tag within the detector's error
+-- a count of steps from the base that is within `beat` of the steps to the step of a time in its period gives a tag
+-- within the detector's error
 near_rest : (clock : Clock) (base count beat rest g : ℕ) (phase : ℤ) (k l : ℕ) → base < steps_of_period →
     phase +ℤ pos (period_of clock * k) ≡ pos (period_of clock * l + rest) →
     g ≡ (rest / step_of clock + 24_576 - base) % 16_384 →
@@ -54,7 +55,8 @@ parts Mhz125 (negsuc a) = record { k = a / 524_288_000 + 1; l = 0; is = omega (a
 parts Mhz62 (pos a) = record { k = 0; l = a / 1_048_576_000; is = omega (arith, ints) }
 parts Mhz62 (negsuc a) = record { k = a / 1_048_576_000 + 1; l = 0; is = omega (arith, ints) }
 
--- a count of steps from the base that is within `beat` of those to the true step gives a tag within the detector's error
+-- a count of steps from the base that is within `beat` of the steps to the true step gives a tag within the detector's
+-- error
 near_tag : (clock : Clock) (base count beat : ℕ) (phase : ℤ) → base < steps_of_period →
     (steps_past (true_step clock phase) base -ℤ pos beat) ≤ℤ pos count →
     pos count ≤ℤ (steps_past (true_step clock phase) base +ℤ pos beat) →
@@ -66,11 +68,11 @@ near_tag clock base count beat phase h least most =
     (subst (λ z. (z -ℤ pos beat) ≤ℤ pos count) past least)
     (subst (λ z. pos count ≤ℤ (z +ℤ pos beat)) past most)
 
--- what the detector tells is the tag of a sample that is not glitched
+-- what the detector reports is the tag of a sample that is not glitched
 told : (base bits tag : ℕ) → deglitched base bits ≡ Some tag → (8 ≤ leading_zeros w64 bits) × (8 ≤ trailing_ones w64 bits) × (tag ≡ tag_of base bits)
 told base bits tag is = grind (arith, nat_tests)
 
--- a tag that the detector tells is within its error of the true phase, round the period
+-- a tag that the detector reports is within its error of the true phase, round the period
 pub tag-within_detector_error : TagWithinDetectorError
 tag-within_detector_error clock base bits beat tag phase h fits pattern is =
     let read : (8 ≤ leading_zeros w64 bits) × (8 ≤ trailing_ones w64 bits) × (tag ≡ tag_of base bits) = told base bits tag is in

@@ -1,4 +1,4 @@
--- One more tag adds its wrapped difference, which is the difference but for whole periods.
+-- One more tag adds its wrapped difference, which is the difference except for whole periods.
 use Rattle.std.proofs.Common.{◌≡◌, ℕ, ℤ, pos, negsuc, neg_ℤ, ◌+◌, ◌*◌, ◌/◌, ◌%◌, ◌<◌, ◌+ℤ◌, ◌≤ℤ◌, ◌<ℤ◌, lit<, Option, List, ◌∷◌, refl, ap₂, sym, arith, subst}
 use Rattle.std.proofs.lemmas.Int.{ints}
 use Rattle.std.proofs.Math.Nat.{div-add-mod, mod-lt}
@@ -9,7 +9,7 @@ use Rattle.wrp_base.specs.Clock.{period_of}
 use Rattle.wrp_base.specs.Calls.{Adds}
 use Rattle.wrp_phase.specs.Unwrapping.{brought_round, added_by, Unwrapping, pushed, StandsFor}
 
--- an unwrapper that took this tag stands for it in front of those before
+-- an unwrapper that took this tag stands for it in front of the earlier tags
 pub StandsFor-pushed : (u : Unwrapping) (tag : ℕ) (tags : List ℕ) → StandsFor u tags → StandsFor (pushed u tag) (tag ∷ tags)
 StandsFor-pushed u tag tags stands = record {
   last = refl;

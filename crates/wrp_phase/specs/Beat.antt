@@ -16,10 +16,10 @@ is_glitched bits = nat_lt (leading_zeros w64 bits) 8 || nat_lt (trailing_ones w6
 abbrev pub tag_of : ℕ → ℕ → ℕ
 tag_of base bits = (base + count_zeros w64 bits) % steps_of_period
 
--- what the detector tells of a sample: nothing of a glitched one
+-- what the detector reports of a sample: nothing of a glitched one
 abbrev pub deglitched : ℕ → ℕ → Option ℕ
 deglitched base bits = if is_glitched bits then None else Some (tag_of base bits)
 
--- the phase that a tag tells, in tau
+-- the phase that a tag shows, in tau
 abbrev pub phase_of : Clock → ℕ → ℕ
 phase_of clock tag = step_of clock * tag

@@ -24,7 +24,8 @@ pub record KeepsBeatPattern (clock : Clock) (base bits beat : ℕ) (phase : ℤ)
 abbrev pub detector_error : Clock → ℕ → ℕ
 detector_error clock beat = (beat + 1) * step_of clock
 
--- the error statement of a tag: where the bits keep the beat pattern about the true phase, a tag that the detector tells is within its error of that phase, round the period
+-- the error statement of a tag: if the bits keep the beat pattern about the true phase, a tag that the detector reports
+-- is within its error of that phase, round the period
 abbrev pub TagWithinDetectorError : Type 0
 TagWithinDetectorError =
     (clock : Clock) (base bits beat tag : ℕ) (phase : ℤ) →

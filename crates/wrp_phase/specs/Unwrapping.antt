@@ -10,7 +10,7 @@ abbrev pub brought_round : Clock → ℤ → ℤ
 brought_round clock difference =
     int_rem_euclid (difference +ℤ pos (period_of clock / 2)) (pos (period_of clock)) -ℤ pos (period_of clock / 2)
 
--- what a tag adds to the phase: its wrapped difference from the tag before it, and nothing where there is none
+-- what a tag adds to the phase: its wrapped difference from the tag before it, and nothing if there is none
 abbrev pub added_by : Clock → Option ℕ → ℕ → ℤ
 added_by clock None tag = pos 0
 added_by clock (Some before) tag = brought_round clock (pos (phase_of clock tag) -ℤ pos (phase_of clock before))

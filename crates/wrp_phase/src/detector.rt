@@ -11,7 +11,7 @@ const SETTLED: u32 = 8;
 /// The tag of a sample, in detector steps: 0 to 16383.
 ///
 /// A sample is a base, 0 to 16383, and 64 beat bits, the most significant first; its tag is the base
-/// and the number of zero bits, round the period. None where the bits have fewer than 8 leading zeros
+/// and the number of zero bits, round the period. None if the bits have fewer than 8 leading zeros
 /// or fewer than 8 trailing ones, so that the edge is not known to lie between them.
 pub fn deglitch(base: u16, bits: u64) -> Option<u16>
     requires { base < steps_of_period }

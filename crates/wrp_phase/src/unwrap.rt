@@ -52,9 +52,9 @@ impl Unwrap {
         self.answer = 0;
     }
 
-    /// Takes a tag, in detector steps, and answers the unwrapped phase, in tau: the sum of the wrapped
-    /// differences of the tags since the last restart. The first one gives 0. A tag of a period or
-    /// more counts round the period.
+    /// Takes a tag, in detector steps, and returns the unwrapped phase, in tau: the sum of the wrapped
+    /// differences of the tags since the last restart. The first one gives 0. A tag of a period or more
+    /// counts round the period.
     pub fn push(&mut self, tag: u16) -> i64
         requires { unsigned_abs self.old.answer < 2 ^ 60 }
         ensures value { self.new ≡ pushed self.old tag }
@@ -79,7 +79,7 @@ fn addend(clock: Clock, before: Option<u16>, tag: u16) -> i64
     }
 }
 
-// The difference of the phases that two tags tell, brought into half a period on either side.
+// The difference of the phases that two tags show, brought into half a period on either side.
 fn difference_round(clock: Clock, before: u16, tag: u16) -> i64
     ensures value { result ≡ added_by clock (Some before) tag }
     ensures size { unsigned_abs result ≤ 2 ^ 29 }

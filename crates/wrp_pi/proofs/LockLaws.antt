@@ -19,7 +19,7 @@ IsLocked-at_lock limits errors e positive is =
 IsLocked-at_zero : (limits : Limits) (errors : List ℤ) (e : ℤ) → count_after limits (e ∷ errors) ≡ 0 → IsLocked limits (e ∷ errors) → ⊥
 IsLocked-at_zero limits errors e is (i, within, at_lock, after) = after 0 (omega arith) is
 
--- what is so of the list, and of each list behind it, is so of each behind the longer one
+-- what holds of the list, and of each of its tails, holds of each tail of the longer list
 after-suc : (limits : Limits) (errors : List ℤ) (e : ℤ) (i : ℕ) → count_after limits (e ∷ errors) ≢ 0 → ((j : ℕ) → j ≤ i → count_after limits (drop j errors) ≢ 0) →
     (j : ℕ) → j ≤ suc i → count_after limits (drop j (e ∷ errors)) ≢ 0
 after-suc limits errors e i is after zero h = is
@@ -43,7 +43,7 @@ is_locked_at-lock d count same = grind (arith, nat_tests)
 is_locked_at-above : (d : Detector) (count : ℕ) → IsTrue d.locked → count ≢ 0 → IsTrue (is_locked_at d count)
 is_locked_at-above d count is above = grind (arith, nat_tests)
 
--- it is locked exactly where the rule says so
+-- it is locked if and only if the rule says so
 is_locked_at-is : (d : Detector) (errors : List ℤ) (e : ℤ) → 0 < d.limits.lock → (IsTrue d.locked ↔ IsLocked d.limits errors) →
     IsTrue (is_locked_at d (count_after d.limits (e ∷ errors))) ↔ IsLocked d.limits (e ∷ errors)
 is_locked_at-is d errors e positive known = (
@@ -59,7 +59,7 @@ is_locked_at-is d errors e positive known = (
   ],
 )
 
--- a detector that took this error stands for it in front of those before
+-- a detector that took this error stands for it in front of the earlier errors
 pub Adds-updated : (old new : Detector) (e : ℤ) → 0 < old.limits.lock → new ≡ updated old e → Adds StandsFor old new e
 Adds-updated old new e positive is errors stands =
     let P : Detector → Type 0 = λ d. StandsFor d (e ∷ errors) in

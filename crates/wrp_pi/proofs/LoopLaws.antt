@@ -4,7 +4,7 @@ use Rattle.std.specs.Int.{saturate_unsigned, w16}
 use Rattle.wrp_base.specs.Calls.{Adds}
 use Rattle.wrp_pi.specs.Loop.{raised, drive, next_accumulated, dac_value, Loop, updated, value_at, StandsFor}
 
--- a loop that took this error stands for it in front of those before
+-- a loop that took this error stands for it in front of the earlier errors
 pub Adds-updated : (old new : Loop) (e : ℤ) → new ≡ updated old e → Adds StandsFor old new e
 Adds-updated old new e is errors stands =
     let P : Loop → Type 0 = λ pi. StandsFor pi (e ∷ errors) in

@@ -22,7 +22,7 @@ abbrev pub count_after : Limits → List ℤ → ℕ
 count_after limits [] = 0
 count_after limits (e ∷ before) = next_count limits (count_after limits before) e
 
--- the detector is locked: i errors ago the count stood at `lock`, and from there on it was never 0
+-- the detector is locked: i errors ago the count was `lock`, and from there on it was never 0
 abbrev pub IsLocked : Limits → List ℤ → Type 0
 IsLocked limits errors =
     (i : ℕ) × (i ≤ length errors) × (count_after limits (drop i errors) ≡ limits.lock) ×

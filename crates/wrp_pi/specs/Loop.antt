@@ -23,7 +23,7 @@ drive gains raised_error e =
 abbrev pub is_frozen : ℤ → ℤ → Bool
 is_frozen z e = (int_lt (pos 65535) z && int_lt (pos 0) e) || (int_lt z (pos 0) && int_lt e (pos 0))
 
--- the accumulated error after one more error: it stays where the error would drive the DAC further out
+-- the accumulated error after one more error: it stays if the error would drive the DAC further out
 abbrev pub next_accumulated : Gains → ℤ → ℤ → ℤ
 next_accumulated gains before e =
     if is_frozen (drive gains (raised before e) e) e then before else raised before e

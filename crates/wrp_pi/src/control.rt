@@ -61,10 +61,10 @@ impl Pi {
         self.accumulated = 0;
     }
 
-    /// Takes a phase error, in 1,000 tau, and answers the DAC value, 0 to 65535.
+    /// Takes a phase error, in 1,000 tau, and returns the DAC value, 0 to 65535.
     ///
     /// The error is added to the accumulated one, which is held within `2^40` on either side, and stays
-    /// as it was where the DAC is out of its range and the error would drive it further out.
+    /// as it was if the DAC is out of its range and the error would drive it further out.
     pub fn update(&mut self, e: i32) -> u16
         requires { unsigned_abs e ≤ 2 ^ 20 }
         ensures value { self.new ≡ updated self.old e }
@@ -104,7 +104,7 @@ fn raise(accumulated: i64, e: i32) -> i64
         .max(-MOST_ACCUMULATED)
 }
 
-// The accumulated error that is kept: the old one where the error would drive the DAC further out.
+// The accumulated error that is kept: the old one if the error would drive the DAC further out.
 fn keep(before: i64, raised: i64, drive: i128, e: i32) -> i64
     ensures { result ≡ (if is_frozen drive e then before else raised) }
 {

@@ -5,7 +5,7 @@ ghost use Rattle.wrp_pi.specs.Lock.{next_count, is_locked_at, rested, updated, S
 
 use std::marker::Model;
 
-/// Tells whether the loop is locked, from the errors that it is given.
+/// Decides whether the loop is locked, from the errors that it is given.
 #[derive(Clone, Copy, Debug, PartialEq, Eq)]
 pub struct LockDet {
     threshold: u32,
@@ -62,11 +62,11 @@ impl LockDet {
         self.locked
     }
 
-    /// Takes a phase error, and tells whether the detector is locked after it.
+    /// Takes a phase error, and returns whether the detector is locked after it.
     ///
     /// An error within the threshold raises the count by one, up to `lock`; there it is locked. Any other
-    /// lets a count above `delock` fall by one; a count then at or below `delock` becomes 0, and it is
-    /// unlocked.
+    /// error makes a count above `delock` fall by one; a count then at or below `delock` becomes 0, and
+    /// the detector is unlocked.
     pub fn update(&mut self, e: i32) -> bool
         ensures value { self.new ≡ updated self.old e }
         ensures stands { Adds StandsFor self.old self.new e }

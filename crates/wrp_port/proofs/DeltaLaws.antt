@@ -1,4 +1,4 @@
--- The delays of a slave port in WR_LINK_ON are those that its master told in this handshake.
+-- The master's delays at a slave port in WR_LINK_ON are the ones that its master reported in this handshake.
 use Rattle.std.proofs.Common.{◌≡◌, ◌∙◌, ap, sym, subst, refl, ℕ, true, is_some, List, Option, None, Some, IfSome}
 use Rattle.wrp_base.specs.declared.link.LinkState.{LinkState}
 use Rattle.wrp_base.specs.declared.link.LinkState.TheVariants.{LinkOn}
@@ -17,7 +17,7 @@ use Rattle.wrp_port.specs.declared.setting.Setting.{Setting}
 use Rattle.wrp_port.specs.History.{link_inputs, link_of}
 use Rattle.wrp_port.specs.PortAt.{deltas_by, deltas_in, deltas_of}
 
--- delays that are known were told
+-- delays that are known were given
 told-by :
     (start : LinkAt) (inputs : List LinkIn) (deltas : Option (ℕ × ℕ)) (own_module : Option Module) →
     IsOrdered start →
@@ -38,7 +38,7 @@ told-in start inputs Slave LinkOn o none known =
     told-by start inputs (run_of start inputs).deltas (run_of start inputs).own_module o none refl known
 told-in start inputs _ _ o none known = tt
 
--- the delays of a port were told
+-- the delays of a port were given
 pub deltas-told :
     (set : Setting) (l : LinkAt) (inputs : List PortIn) →
     l ≡ link_of set inputs →

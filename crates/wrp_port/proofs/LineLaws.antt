@@ -1,4 +1,4 @@
--- One more input: looking back finds what the input makes of the line that stood before it.
+-- One more input: looking back finds what the input makes of the line before it.
 use Rattle.std.proofs.Common.{◌≡◌, ◌∙◌, ap, sym, subst, refl, ℕ, ◌+◌, ◌-◌, ◌%◌, Bool, true, false, if◌then◌else◌, ◌&&◌, List, ◌∷◌, length, Option, None, Some, arith}
 use Rattle.std.proofs.Math.Nat.{zero-mod}
 use Rattle.std.specs.Option.{option_map, is_none}
@@ -241,12 +241,12 @@ rest_after-step set (Sample number phase) before = refl
 rest_after-step set (Chain news) before = refl
 rest_after-step set Reset before = new-line set
 
--- the calls of the exchange are those before, with that of the input
+-- the calls of the exchange are the calls before, with the call of the input
 calls_of-step : (set : Setting) (input : PortIn) (before : List PortIn) → calls_after set (rest_after set before) input (calls_of set before) ≡ calls_of set (input ∷ before)
 calls_of-step set Reset before = refl
 calls_of-step set _ before = refl
 
--- an input goes in front of those that a port stands for
+-- an input goes in front of the inputs that a port stands for
 pub Adds-after :
     (old new : PortAt) (input : PortIn) →
     new.set ≡ old.set →

@@ -1,4 +1,5 @@
--- What a port makes of a message that comes: whether it is dropped, and for which reason; what it is to the link, to the lease and to the exchange (this project's profile).
+-- What a port makes of a message that comes: whether it is dropped, and for which reason; what it is to the link, to
+-- the lease and to the exchange (this project's profile).
 use Rattle.std.specs.Prelude.{ℕ, ◌==◌, ◌||◌, Bool, true, false, if◌then◌else◌, bit_and, Option, None, Some}
 use Rattle.wrp_base.specs.declared.link.LinkWord.{LinkWord}
 use Rattle.wrp_base.specs.declared.link.LinkWord.TheVariants.{Down, Quiet as QuietWord}

@@ -1,4 +1,6 @@
--- What stands at a port after a list of inputs, by looking back over the list from the newest: the inputs that reached its link, the lease, the ticks of its schedule, how many messages of each kind it sent, and the pieces that reached its exchange (this project's profile).
+-- What a port holds after a list of inputs, by looking back over the list from the newest: the inputs that reached its
+-- link, the lease, the ticks of its schedule, how many messages of each kind it sent, and the pieces that reached its
+-- exchange (this project's profile).
 use Rattle.std.specs.Prelude.{ℕ, ◌+◌, ◌-◌, ◌%◌, ◌&&◌, Bool, true, false, if◌then◌else◌, nat_lt, List, [], ◌∷◌, length, option_map, Option, None, Some}
 use Rattle.std.specs.Option.{is_none}
 use Rattle.wrp_base.specs.declared.message.PtpMsg.{PtpMsg}
@@ -20,7 +22,7 @@ use Rattle.wrp_port.specs.Outputs.{call_of, with_call}
 
 -- ---- the link
 
--- what a message is to the link: nothing where there is a reason to drop it early
+-- what a message is to the link: nothing if there is a reason to drop it early
 abbrev pub input_unless : Option Reason → Option LinkIn → Option LinkIn
 input_unless None input = input
 input_unless (Some reason) input = None
@@ -59,7 +61,7 @@ link_of set inputs = link_by set (link_inputs set inputs)
 abbrev pub renews_at : Setting → LinkAt → PtpMsg → Bool
 renews_at set l message = is_none (early_reason set l message) && renews set.ds.role message.head message.body
 
--- the turns of the lease since it was renewed: 0 where a message renews it now, else as they were
+-- the turns of the lease since it was renewed: 0 if a message renews it now, else as they were
 abbrev pub zero_where : Bool → Option ℕ → Option ℕ
 zero_where renewed turns = if renewed then Some 0 else turns
 
@@ -81,14 +83,14 @@ is_fresh_at lease (Some turns) = nat_lt turns lease
 abbrev pub is_fresh : Setting → List PortIn → Bool
 is_fresh set inputs = is_fresh_at set.sched.lease (since_renewal set inputs)
 
--- the turns for which the lease is still fresh: 0 where nothing renewed it, or all its turns passed
+-- the turns for which the lease is still fresh: 0 if nothing renewed it, or all its turns passed
 abbrev pub left_of : ℕ → Option ℕ → ℕ
 left_of lease None = 0
 left_of lease (Some turns) = lease - turns
 
 -- ---- the schedule
 
--- the ticks of the schedule: 0 where the port is not open, since the schedule begins again
+-- the ticks of the schedule: 0 if the port is not open, since the schedule begins again
 abbrev pub while_open : LinkAt → ℕ → ℕ
 while_open l ticks = if is_open l then ticks else 0
 
@@ -105,17 +107,17 @@ ticks_open set (Tick locked certain ∷ before) =
     while_open (link_of set (Tick locked certain ∷ before)) (if is_open (link_of set before) then ticks_open set before + 1 else 0)
 ticks_open set (input ∷ before) = ticks_told (link_of set before) (to_link set (link_of set before) input) (ticks_open set before)
 
--- whether the newest of these inputs, a tick, sends a message whose kind comes each so many ticks
+-- whether the newest of these inputs, a tick, sends a message whose kind comes every so many ticks
 abbrev pub is_due_in : Setting → ℕ → List PortIn → Bool
 is_due_in set every inputs = is_due (link_of set inputs) (ticks_open set inputs % every)
 
 -- ---- sequenceIds: how many messages of a kind were sent since the last reset
 
--- a count of sent messages, with one more where one is sent
+-- a count of sent messages, with one more if one is sent
 abbrev pub one_more_where : Bool → ℕ → ℕ
 one_more_where sent n = if sent then n + 1 else n
 
--- the messages of a kind that comes each so many ticks
+-- the messages of a kind that comes every so many ticks
 abbrev pub sent_each : ℕ → Setting → List PortIn → ℕ
 sent_each every set [] = 0
 sent_each every set (Reset ∷ before) = 0
@@ -123,7 +125,7 @@ sent_each every set (Tick locked certain ∷ before) =
     one_more_where (is_due_in set every (Tick locked certain ∷ before)) (sent_each every set before)
 sent_each every set (_ ∷ before) = sent_each every set before
 
--- Announce and Sync are of a master, Delay_Req of a slave
+-- Announce and Sync are sent by a master, Delay_Req by a slave
 abbrev pub at_master : Role → ℕ → ℕ
 at_master Master n = n
 at_master Slave n = 0
@@ -145,7 +147,7 @@ syncs set inputs = at_master set.ds.role (sent_each set.sched.sync set inputs)
 abbrev pub requests : Setting → List PortIn → ℕ
 requests set inputs = at_slave set.ds.role (sent_each set.sched.delay set inputs)
 
--- so many messages, and those that the link sends for an input, if there is one
+-- so many messages, and the ones that the link sends for an input, if there is one
 abbrev pub signals_told : LinkAt → Option LinkIn → ℕ → ℕ
 signals_told l None sent = sent
 signals_told l (Some input) sent = sent + length (sends_of l input)
@@ -169,7 +171,7 @@ abbrev pub only_at_master : Role → Option ℕ → Option ℕ
 only_at_master Master newest = newest
 only_at_master Slave newest = None
 
--- the sequenceId of the newest Sync that the port sent since the last reset: None where it sent none
+-- the sequenceId of the newest Sync that the port sent since the last reset: None if it sent none
 abbrev pub newest_sync : Setting → List PortIn → Option ℕ
 newest_sync set inputs = only_at_master set.ds.role (newest_of set inputs)
 

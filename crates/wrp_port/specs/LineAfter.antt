@@ -39,7 +39,7 @@ first_ids = record { announce = 0; sync = 0; request = 0; signal = 0; newest_syn
 abbrev pub new_line : Setting → Rest
 new_line set = record { link = new_link set.ds.role set.link; lease = 0; turns = first_turns; ids = first_ids }
 
--- the schedule of a port with this link: it begins anew where the port is not open
+-- the schedule of a port with this link: it restarts if the port is not open
 abbrev pub turns_while : LinkAt → Turns → Turns
 turns_while l turns = if is_open l then turns else first_turns
 
@@ -70,7 +70,7 @@ abbrev pub heard_unless : Option Reason → Setting → Rest → PtpMsg → Rest
 heard_unless None set line message = heard set line message
 heard_unless (Some reason) set line message = line
 
--- a line after the link's part of a tick: where the port was open before it, the schedule goes on; else it begins
+-- a line after the link's part of a tick: if the port was open before it, the schedule goes on; else it begins
 abbrev pub ticked : Setting → Rest → Bool → Rest
 ticked set line locked =
     record (told line (link.Tick locked)) {
@@ -93,11 +93,11 @@ syncs_on line = is_due line.link line.turns.sync
 abbrev pub requests_on : Rest → Bool
 requests_on line = is_due line.link line.turns.delay
 
--- the next sequenceId where a message is sent
+-- the next sequenceId if a message is sent
 abbrev pub next_where : Bool → ℕ → ℕ
 next_where sent seq = if sent then next_id seq else seq
 
--- the newest Sync where one is sent
+-- the newest Sync if one is sent
 abbrev pub newest_where : Bool → ℕ → Option ℕ → Option ℕ
 newest_where sent seq newest = if sent then Some seq else newest
 

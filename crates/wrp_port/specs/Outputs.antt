@@ -32,7 +32,7 @@ use Rattle.wrp_port.specs.Hearing.{is_open, early_reason, link_input, piece_of, 
 use Rattle.wrp_port.specs.LineAfter.{ticked, announces_on, syncs_on, requests_on}
 use Rattle.wrp_port.specs.Messages.{signals_of, announce_of, sync_of, request_of, follow_up_of, response_of}
 
--- where there is a number, it is the number of a reason for which a port drops a message, 9 to 13:
+-- if there is a number, it is the number of a reason for which a port drops a message, 9 to 13:
 -- Domain, Stranger, NotForUs, Quiet or Unmatched
 abbrev pub IsPortReason : Option ℕ → Type 0
 IsPortReason drop = IfSome drop (λ number. (9 ≤ number) × (number ≤ 13))
@@ -48,7 +48,7 @@ rank_of (In state) = 3 + rank_of_state state
 abbrev pub is_word : LinkWord → LinkWord → Bool
 is_word a b = rank_of a == rank_of b
 
--- a list of one, where it holds
+-- a list of one, if it holds
 abbrev pub where_due : Bool → PtpMsg → List PtpMsg
 where_due due message = if due then message ∷ [] else []
 
@@ -75,17 +75,17 @@ heard_sends set line message stamp =
     signals_of set line.ids.signal (link_sends line.link (link_input set.ds.role message.body))
     ++ response_to set set.ds.role message.head message.body stamp
 
--- what a message makes the port send: nothing where there is a reason to drop it early
+-- what a message makes the port send: nothing if there is a reason to drop it early
 abbrev pub sends_unless : Option Reason → Setting → Rest → PtpMsg → Stamp → List PtpMsg
 sends_unless None set line message stamp = heard_sends set line message stamp
 sends_unless (Some reason) set line message stamp = []
 
--- whether a sequenceId is that of the newest Sync
+-- whether the newest Sync has this sequenceId
 abbrev pub is_newest : Option ℕ → ℕ → Bool
 is_newest None seq = false
 is_newest (Some newest) seq = newest == seq
 
--- the sending of the newest Sync, told while the port is open, gives its Follow_Up
+-- the sending of the newest Sync, given while the port is open, makes its Follow_Up
 abbrev pub follow_ups : Setting → Rest → ℕ → Stamp → List PtpMsg
 follow_ups set line seq stamp =
     where_due (is_newest line.ids.newest_sync seq && is_open line.link) (follow_up_of set seq stamp)
@@ -98,7 +98,7 @@ sends_of set line (Tick locked certain) =
 sends_of set line (Sent false seq stamp tick) = follow_ups set line seq stamp
 sends_of set line _ = []
 
--- the second of two words, where it differs from the first
+-- the second of two words, if it differs from the first
 abbrev pub changed_word : LinkWord → LinkWord → Option LinkWord
 changed_word before after = if is_word before after then None else Some after
 
@@ -110,7 +110,7 @@ chain_call Same = None
 chain_call (Started first) = Some (CallStart first)
 chain_call Ended = Some CallClear
 
--- the piece of the exchange that a message is: none where there is a reason to drop it early
+-- the piece of the exchange that a message is: none if there is a reason to drop it early
 abbrev pub piece_unless : Option Reason → Option Call → Option Call
 piece_unless None piece = piece
 piece_unless (Some reason) piece = None
@@ -164,7 +164,7 @@ abbrev pub with_call : Option Call → List Call → List Call
 with_call None calls = calls
 with_call (Some call) calls = call ∷ calls
 
--- the four stamps that a piece makes, where it makes a pair and both pairs stand
+-- the four stamps that a piece makes, if it makes a pair and both pairs are there
 abbrev pub four_by : ℕ → List Call → Option Call → Option Four
 four_by ring calls piece =
     if pairs piece && is_kept ring calls piece then four_of ring (with_call piece calls) else None
@@ -179,7 +179,7 @@ abbrev pub reason_by : Option Reason → Bool → Option Reason
 reason_by (Some reason) used = Some reason
 reason_by None used = if used then None else Some Unmatched
 
--- the number of the reason for which a message is dropped: None where it is not
+-- the number of the reason for which a message is dropped: None if it is not
 abbrev pub number_by : Option Reason → Option ℕ
 number_by None = None
 number_by (Some reason) = Some (number_of reason)

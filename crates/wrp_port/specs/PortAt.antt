@@ -47,17 +47,17 @@ pub record StandsFor (port : PortAt) (inputs : List PortIn) : Type 0 where
   pub line : port.line ≡ rest_after port.set inputs
   pub exchange : ExchangeStandsFor port.set.ring port.exchange (calls_of port.set inputs)
 
--- the transmission delay of a module, in tau: 0 where the module is not listed
+-- the transmission delay of a module, in tau: 0 if the module is not listed
 abbrev pub tx_of : Option Module → ℕ
 tx_of None = 0
 tx_of (Some own_module) = own_module.tx
 
--- the reception delay of a module, in tau: 0 where the module is not listed
+-- the reception delay of a module, in tau: 0 if the module is not listed
 abbrev pub rx_of : Option Module → ℕ
 rx_of None = 0
 rx_of (Some own_module) = own_module.rx
 
--- the four delays of a link: the peer's, and those of the own module
+-- the four delays of a link: the peer's, and the own module's
 abbrev pub deltas_by : Option (ℕ × ℕ) → Option Module → Deltas
 deltas_by None own_module = record { txm = 0; rxm = 0; txs = tx_of own_module; rxs = rx_of own_module }
 deltas_by (Some (tx, rx)) own_module = record { txm = tx; rxm = rx; txs = tx_of own_module; rxs = rx_of own_module }

@@ -34,7 +34,7 @@ fn is_addressed(ds: &PortDs, body: &Body) -> bool
 
 /// The reason for which a message is dropped whatever its kind, the first that applies: Domain, of
 /// another domain; Stranger, not from the peer; NotForUs, a Signaling or Delay_Resp for another port;
-/// Quiet, at a port that is not open. None where there is no such reason. Nothing changes.
+/// Quiet, at a port that is not open. None if there is no such reason. Nothing changes.
 pub fn early_reason(set: &Setting, link: &Link, message: &PtpMsg) -> Option<Reason>
     ensures value { result ≡ early_reason set.now link.now message.now }
     ensures range { IfSome result (λ reason. (9 ≤ number_of reason) × (number_of reason ≤ 12)) }

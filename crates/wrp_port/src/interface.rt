@@ -36,7 +36,7 @@ pub enum PortIn {
         /// Whether the node's time is certain: it is the grandmaster, or in TRACK.
         certain: bool,
     },
-    /// The sending of one of the port's frames is told.
+    /// One of the port's frames was sent.
     Sent {
         /// Whether it is a Delay_Req; else it is a Sync.
         delay: bool,
@@ -44,14 +44,14 @@ pub enum PortIn {
         seq: u16,
         /// The stamp of its sending.
         stamp: Stamp,
-        /// The node's tick count as it was told.
+        /// The node's tick count when the port is given this.
         tick: u32,
     },
     /// The carrier comes or goes.
     Carrier {
         /// Whether it comes.
         up: bool,
-        /// The port's module, where the calibration database lists it.
+        /// The port's module, if the calibration database lists it.
         module: Option<Module>,
     },
     /// A good phase sample.
@@ -63,16 +63,16 @@ pub enum PortIn {
     },
     /// What became of the servo's chain.
     Chain(ChainNews),
-    /// The node starts anew.
+    /// The node restarts.
     Reset,
 }
 
 /// What a port answers to one input. It is lent to a port again and again: a new one fills its places.
 #[derive(Debug, Drop, PartialEq, Eq)]
 pub struct PortOut {
-    /// The new word: Some exactly where it differs from the one before.
+    /// The new word: Some if and only if it differs from the one before.
     pub word: Option<LinkWord>,
-    /// The messages to send: those of the link, Announce, Sync, Delay_Req, Follow_Up, Delay_Resp.
+    /// The messages to send: the link's messages, Announce, Sync, Delay_Req, Follow_Up, Delay_Resp.
     pub sends: ArrayVec<PtpMsg, 4>,
     /// The number of the reason for which a message was dropped, 9 to 13.
     pub drop: Option<u8>,

@@ -16,26 +16,26 @@ use wrp_link::{Link, LinkIn, LinkOut};
 /// How far the schedule is: for each kind the ticks since its last turn.
 #[derive(Clone, Copy, Debug)]
 pub struct Turns {
-    /// Those of Announce.
+    /// The ticks since the last turn of Announce.
     pub announce: u32,
-    /// Those of Sync.
+    /// The ticks since the last turn of Sync.
     pub sync: u32,
-    /// Those of Delay_Req.
+    /// The ticks since the last turn of Delay_Req.
     pub delay: u32,
 }
 
 /// The sequenceIds of the next messages, each kind counted by itself.
 #[derive(Clone, Copy, Debug)]
 pub struct Ids {
-    /// That of the next Announce.
+    /// The sequenceId of the next Announce.
     pub announce: u16,
-    /// That of the next Sync.
+    /// The sequenceId of the next Sync.
     pub sync: u16,
-    /// That of the next Delay_Req.
+    /// The sequenceId of the next Delay_Req.
     pub request: u16,
-    /// That of the next Signaling.
+    /// The sequenceId of the next Signaling.
     pub signal: u16,
-    /// That of the newest Sync, if there was one.
+    /// The sequenceId of the newest Sync, if there was one.
     pub newest_sync: Option<u16>,
 }
 
@@ -116,8 +116,8 @@ impl Rest {
         }
     }
 
-    /// Gives the link an input. Each message that it sends takes a sequenceId, and where the port is
-    /// not open after it the schedule begins anew.
+    /// Gives the link an input. Each message that it sends takes a sequenceId. If the port is not open
+    /// after it, the schedule restarts.
     pub fn tell(&mut self, input: LinkIn) -> LinkOut
         ensures line { self.new ≡ told self.old input }
         ensures sends { result.sends.items ≡ link_sends_of self.old.link input }
@@ -131,7 +131,7 @@ impl Rest {
         out
     }
 
-    /// The link's part of a tick: where the port was open before it, the schedule goes on.
+    /// The link's part of a tick: if the port was open before it, the schedule goes on.
     pub fn tick(&mut self, set: &Setting, locked: bool) -> LinkOut
         requires { IsSetting set.now }
         ensures line { self.new ≡ ticked set.now self.old locked }
@@ -183,7 +183,7 @@ impl Rest {
         }
     }
 
-    // Sends the Delay_Req that is due; answers its sequenceId.
+    // Sends the Delay_Req that is due; returns its sequenceId.
     fn send_request(&mut self, set: &Setting, sends: &mut Sends)
         requires { length sends.old.items < 4 }
         ensures line { self.new ≡ requested self.old }

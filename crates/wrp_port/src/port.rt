@@ -43,7 +43,7 @@ impl Model for Port {
     ghost invariant = { λ p. IsSetting p.set };
 }
 
-// What a port answers, but for its word and what it sends.
+// What a port answers, except its word and what it sends.
 #[derive(Drop)]
 struct Answer {
     // The number of the reason for which a message was dropped.
@@ -92,13 +92,13 @@ impl Port {
         })
     }
 
-    /// Takes one input, and answers the new word, what the port sends, why a message was dropped, and
-    /// a new measurement. A stamp's value is 0 to `2^93`.
-    /// `word` is None where the word stays, `drop` where no message was dropped, `measured` where the
-    /// input made no pair or the other pair is missing. A message that is dropped for the reasons 9 to
-    /// 12 leaves the port as it was. One that is dropped for 13, as of no use, leaves link, lease,
-    /// schedule, sequenceIds and both pairs as they were; but a Follow_Up takes the Sync of its
-    /// sequenceId that waits for it away, where the sample of that Sync is no longer known.
+    /// Takes one input, and returns the new word, what the port sends, why a message was dropped, and a
+    /// new measurement. A stamp's value is 0 to `2^93`.
+    /// `word` is None if the word stays, `drop` if no message was dropped, `measured` if the input made
+    /// no pair or the other pair is missing. A message that is dropped for the reasons 9 to 12 leaves
+    /// the port as it was. One that is dropped for 13, as of no use, leaves link, lease, schedule,
+    /// sequenceIds and both pairs as they were; but a Follow_Up removes the Sync of its sequenceId that
+    /// waits for it, if the sample of that Sync is no longer known.
     pub fn step(&mut self, input: PortIn) -> PortOut
         requires { IsFit input }
         ensures set { self.new.set ≡ self.old.set }
@@ -124,8 +124,8 @@ impl Port {
         out
     }
 
-    /// Takes one input, and fills `out` with what `step` answers. What `out` had before is gone. What a
-    /// None says, and what a dropped message leaves, is as `step` has it.
+    /// Takes one input, and fills `out` with what `step` returns. What `out` had before is gone. What a
+    /// None says, and what a dropped message leaves, is as for `step`.
     pub fn step_into(&mut self, input: PortIn, out: &mut PortOut)
         requires { IsFit input }
         ensures set { self.new.set ≡ self.old.set }
@@ -163,9 +163,9 @@ impl Port {
         self.line.lease > 0
     }
 
-    /// The four delays of the link, each in tau: Some exactly for a slave port in WR_LINK_ON. The
-    /// master's are those that it told in this handshake. None at a master, and in each other state of
-    /// the link. The port stays as it is.
+    /// The four delays of the link, each in tau: Some if and only if this is a slave port in WR_LINK_ON.
+    /// The master's delays are the ones that it reported in this handshake. None at a master, and in
+    /// each other state of the link. The port stays as it is.
     pub fn deltas(&self) -> Option<Deltas>
         ensures value { result ≡ deltas_of self.now.set.ds.role self.now.line.link }
         ensures told { (inputs : List PortIn) → StandsFor self.now inputs →
@@ -190,8 +190,8 @@ impl Port {
         self.line.link.state()
     }
 
-    /// The port's module. None without a carrier, and where the calibration database does not list it.
-    /// The port stays as it is.
+    /// The port's module. None without a carrier, or if the calibration database does not list it. The
+    /// port stays as it is.
     pub fn own_module(&self) -> Option<Module>
         ensures { result ≡ self.now.line.link.own_module }
     {
@@ -259,7 +259,7 @@ impl Answer {
     }
 }
 
-// The second word, where it differs from the first.
+// The second word, if it differs from the first.
 fn change(from: LinkWord, to: LinkWord) -> Option<LinkWord>
     ensures { result ≡ changed_word from to }
 {

@@ -1,18 +1,19 @@
-//! Cases in which each call of an object fails in its turn: of the source (`reads`), or of the sink (`writes`). Words, input
-//! and numbers are those of a case `run`. Due are the number and the octets of the run in which no call fails, and behind
-//! them a line `calls N`: that run makes so many calls of the object, and each of them was tried. For each failing call
-//! behind which the run ends otherwise than it has to, a line `call K: status S, N octets` stands before it.
+//! Cases in which each call of an object fails in its turn: of the source (`reads`), or of the sink (`writes`). Words,
+//! input and numbers are as in a case `run`. What is expected is the number and the octets of the run in which no call
+//! fails, and after them a line `calls N`: that run makes so many calls of the object, and each of them was tried. For
+//! each failing call after which the run ends otherwise than it has to, a line `call K: status S, N octets` comes
+//! before it.
 //!
-//! Where a call of the source fails, the status is 5, and whole lines stand: the first ones of the run in which none fails,
-//! and no fewer than where an earlier call fails. Where a call of the sink fails, the status is 6, and the sink holds what
-//! its calls before it took in the run in which none fails.
+//! If a call of the source fails, the status is 5, and whole lines are written: the first ones of the run in which none
+//! fails, and no fewer than if an earlier call fails. If a call of the sink fails, the status is 6, and the sink holds
+//! what its calls before it took in the run in which none fails.
 use crate::running::{Ended, borrowed, ran};
 use crate::runs::way_of;
 use std::alloc::{AllocError, Global};
 use wrp_run::Status;
 use wrp_suite::{Answer, Case};
 
-// What is told of the runs in which a call failed, and how many calls were tried.
+// What is printed of the runs in which a call failed, and how many calls were tried.
 #[derive(Drop)]
 struct Tried {
     told: String,
@@ -34,7 +35,7 @@ impl Tried {
         self.calls
     }
 
-    // Tells of a run that ended otherwise than it has to.
+    // Appends a run that ended otherwise than it has to.
     fn tell(&mut self, alloc: Global, ended: &Ended) -> Result<(), AllocError> {
         let (call, status) = (self.calls, ended.status.number());
         let count = ended.octets.len();
@@ -43,7 +44,7 @@ impl Tried {
     }
 }
 
-// What came of a run in which no call failed, and of those in which one did.
+// What came of a run in which no call failed, and of the runs in which one did.
 fn answer_of(alloc: Global, whole: Ended, tried: Tried) -> Result<Answer, AllocError> {
     let Ended {
         status,
@@ -66,7 +67,7 @@ pub fn are_lines(octets: &[u8]) -> bool {
     octets.is_empty() || octets.ends_with(b"\n")
 }
 
-// Whether a run whose source failed ended as it has to, where so many octets stood when an earlier call failed.
+// Whether a run whose source failed ended as it has to, if so many octets were written when an earlier call failed.
 fn is_cut_short(ended: &Ended, whole: &Ended, stood: usize) -> bool {
     ended.status == Status::ReadFault
         && are_lines(&ended.octets)
@@ -74,7 +75,7 @@ fn is_cut_short(ended: &Ended, whole: &Ended, stood: usize) -> bool {
         && stood <= ended.octets.len()
 }
 
-/// What becomes of a run where each call of its source fails in its turn.
+/// What becomes of a run when each call of its source fails in its turn.
 pub fn reads(alloc: Global, case: &Case) -> Result<Answer, AllocError> {
     let words = borrowed(alloc, &case.words)?;
     let mut way = way_of(case);
@@ -92,7 +93,7 @@ pub fn reads(alloc: Global, case: &Case) -> Result<Answer, AllocError> {
     answer_of(alloc, whole, tried)
 }
 
-/// What becomes of a run where each call of its sink fails in its turn.
+/// What becomes of a run when each call of its sink fails in its turn.
 pub fn writes(alloc: Global, case: &Case) -> Result<Answer, AllocError> {
     let words = borrowed(alloc, &case.words)?;
     let mut way = way_of(case);

@@ -1,11 +1,11 @@
-//! Cases on a loop over a link that carries what a script says: the words are the steps of the script, and `loop --seed 1` runs
-//! over the input. It is due what the run writes; then the calls of the link, in a line `start ENDS`, and a line for each
-//! datagram, with what was received behind it, as numbers of octets:
+//! Cases on a loop over a link that carries what a script says: the words are the steps of the script, and
+//! `loop --seed 1` runs over the input. What the run writes is expected; then the calls of the link, in a line
+//! `start ENDS`, and a line for each datagram, with what was received after it, as numbers of octets:
 //!
 //!     send END OCTETS, receive END OCTETS, receive END nothing
 //!
-//! and, where the status is 0, a line `audit again`: the lines of the events, given to `audit`, print the other lines, but for
-//! the line of forged datagrams. Else what `audit` prints stands in its place.
+//! and, if the status is 0, a line `audit again`: the lines of the events, given to `audit`, print the other lines,
+//! except for the line of forged datagrams. If they do not, what `audit` prints comes in its place.
 use crate::running::{AT_ONCE, Ended, ran, ran_over};
 use crate::scripted::Scripted;
 use crate::texts::{push_line, text_of, with_records};
@@ -15,7 +15,7 @@ use wrp_io::LinkCall;
 use wrp_run::Status;
 use wrp_suite::{Answer, Case, Fault};
 
-// Tells a datagram that was received, or that none was.
+// Appends a datagram that was received, or that none was.
 fn tell_received(
     alloc: Global,
     told: &mut String,
@@ -31,7 +31,7 @@ fn tell_received(
     }
 }
 
-// Tells a call. The line of a reception is that of the datagram that was sent before it.
+// Appends a call. A reception is on the line of the datagram that was sent before it.
 fn tell_call(alloc: Global, told: &mut String, call: &LinkCall) -> Result<(), AllocError> {
     match call {
         LinkCall::Start(ends) => told.push_str(format!(in alloc; "start {ends}")?.as_str()),
@@ -61,7 +61,7 @@ fn is_forged(text: &str) -> bool {
     text.starts_with("forged ") && text.lines().count() == 1 && text.split(' ').count() == 2
 }
 
-// Whether the lines of an audit are the other lines of a loop, but for the line of forged datagrams, the last one.
+// Whether the lines of an audit are the other lines of a loop, except for the line of forged datagrams, the last one.
 fn are_again(others: &str, audit: &str) -> bool {
     match others.strip_prefix(audit) {
         Some(rest) => rest.is_empty() || is_forged(rest),
@@ -69,7 +69,7 @@ fn are_again(others: &str, audit: &str) -> bool {
     }
 }
 
-// Tells whether an audit of a loop's events prints its other lines.
+// Appends whether an audit of a loop's events prints its other lines.
 fn tell_audit(alloc: Global, told: &mut String, input: &[u8], text: &str) -> Result<(), Fault> {
     let (events, others) = parted(alloc, text)?;
     let records = with_records(alloc, input, events.as_str())?;
@@ -83,7 +83,7 @@ fn tell_audit(alloc: Global, told: &mut String, input: &[u8], text: &str) -> Res
     Ok(())
 }
 
-// Tells a run, and the calls of its link.
+// The text of a run, and of the calls of its link.
 fn tell_run(alloc: Global, ended: &Ended, link: &Scripted<'_>) -> Result<String, Fault> {
     let mut told = String::new(alloc);
     told.push_str(text_of(ended)?)?;

@@ -1,16 +1,16 @@
 //! Cases on audits of an input that is cut: the words are two numbers, and of the input so many octets are left as the
-//! first says, then one more, and so on up to the second. Due is how many cuts there were, and how the audits of what is
-//! left ended, in three lines:
+//! first says, then one more, and so on up to the second. What is expected is how many cuts there were, and how the
+//! audits of what is left ended, in three lines:
 //!
 //!     cuts N
 //!     before the records: done A, bad-network B
 //!     in the records: done C, bad-trace D, broken E
 //!
-//! Before them stands a line `cut N: status S` for each cut of which an audit ends otherwise than it has to. Up to
-//! the line between network and records the audit is done, with nothing written, or the network is refused. Behind it the
-//! audit is done, or the last record is refused, behind the lines of those before it. A record without its line end at the
-//! end of the input is one like any other. Where the source fails there in place of being at its end, the status is 5, and
-//! the lines of the whole records stand.
+//! Before them comes a line `cut N: status S` for each cut of which an audit ends otherwise than it has to. Up to the
+//! line between network and records the audit is done, with nothing written, or the network is refused. After it the
+//! audit is done, or the last record is refused, after the lines of the records before it. A record without its line
+//! end at the end of the input is one like any other. If the source fails there instead of being at its end, the status
+//! is 5, and the lines of the whole records are written.
 use crate::calls::are_lines;
 use crate::running::{AT_ONCE, Ended, Way, ran};
 use std::alloc::{AllocError, Global};
@@ -18,13 +18,13 @@ use std::mem;
 use wrp_run::Status;
 use wrp_suite::{Answer, Case, Fault};
 
-// The line that stands between a network and its records.
+// The line between a network and its records.
 const BETWEEN: &str = "---";
 
 // The words of each run.
 const WORDS: [&str; 1] = ["audit"];
 
-// The source fails where it is at its end.
+// The source fails when it is at its end.
 const BROKEN_OFF: Way = Way {
     breaks: true,
     gives: usize::MAX,
@@ -61,7 +61,7 @@ impl Counts {
         }
     }
 
-    // Tells the counts.
+    // Appends the counts.
     fn tell(&self, alloc: Global, told: &mut String) -> Result<(), AllocError> {
         let (cuts, done, broken) = (self.cuts, self.done, self.broken);
         let (before, bad_network, bad_trace) = (self.done_before, self.bad_network, self.bad_trace);
@@ -77,7 +77,7 @@ impl Counts {
     }
 }
 
-// How many octets stand up to the end of the line between network and records.
+// How many octets there are up to the end of the line between network and records.
 fn front_of(input: &[u8]) -> Option<usize> {
     let mut end = 0usize;
     for line in input.split(|octet| *octet == b'\n') {
@@ -135,8 +135,8 @@ fn fits_before(cut: &Cut<'_>) -> bool {
     ends && cut.failed.status == Status::ReadFault && cut.failed.octets.is_empty()
 }
 
-// Whether the octets behind the lines of the whole records are what is due: the refusal of the record of this number, or
-// else counters alone where no record is cut.
+// Whether the octets after the lines of the whole records are what is expected: the refusal of the record of this
+// number, or else counters alone if no record is cut.
 fn fits_rest(
     alloc: Global,
     status: Status,
@@ -165,8 +165,8 @@ struct Course {
 }
 
 impl Course {
-    // Whether what a failed read leaves are the lines of the whole records: the first lines of the whole audit, the same
-    // ones for each cut of one record, and no fewer behind a further record.
+    // Whether what a failed read leaves is the lines of the whole records: the first lines of the whole audit, the same
+    // ones for each cut of one record, and no fewer after a further record.
     fn fits_failed(&self, cut: &Cut<'_>, records: usize) -> bool {
         let stands = cut.failed.octets.as_slice();
         cut.failed.status == Status::ReadFault
@@ -215,7 +215,7 @@ impl Course {
     }
 }
 
-// Tells of a cut whose audits ended otherwise than they have to.
+// Appends a cut whose audits ended otherwise than they have to.
 fn tell_cut(
     alloc: Global,
     told: &mut String,

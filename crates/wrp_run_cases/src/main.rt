@@ -1,14 +1,15 @@
-//! `wrp_run_cases`: the program that runs all cases. Its words name case files; docs/CASES.md says what is in one. Each case
-//! that differs is reported on standard error, and `N passed, M failed` is printed; the process ends with 1 where one failed.
+//! `wrp_run_cases`: the program that runs all cases. Its words name case files; docs/CASES.md says what is in one. It
+//! reports each case that differs on standard error, and prints `N passed, M failed`; if one failed, the process ends
+//! with 1.
 //!
-//! The kinds of this crate are nine, on the top call. A case `run` hands its words and its input to `run`, and what
-//! the sink takes and the number of the status are due; `reads` and `writes` do so with each call of the source and of the
-//! sink failing in its turn; `cuts` audits the first octets of an input, however many they are; `migrated` says what the
-//! calibration text says that a run writes; `tracks` gives the bounds of a run's `track` lines; a `projection` replays what
-//! an audit gives each of its nodes; `carried` is a loop over a link that carries what the case says; and `number` gives the
-//! number of a status. All other kinds are those of `wrp_part_cases`, `wrp_text_cases`, `wrp_node_cases`, `wrp_line_cases`
-//! and `wrp_carrier_cases`. They are libraries, since a library costs its proof alone, and a program two builds of all
-//! that is below it.
+//! The kinds of this crate are nine, on the top call. A case `run` hands its words and its input to `run`, and what the
+//! sink takes and the number of the status are expected; `reads` and `writes` do so with each call of the source and of
+//! the sink failing in its turn; `cuts` audits the first octets of an input, however many they are; `migrated` says
+//! what the calibration text says that a run writes; `tracks` gives the bounds of a run's `track` lines; a `projection`
+//! replays what an audit gives each of its nodes; `carried` is a loop over a link that carries what the case says; and
+//! `number` gives the number of a status. All other kinds are in `wrp_part_cases`, `wrp_text_cases`, `wrp_node_cases`,
+//! `wrp_line_cases` and `wrp_carrier_cases`. They are libraries, since a library costs only its proof, and a program
+//! two builds of all that is below it.
 #![tactic(auto)]
 
 mod calls;
@@ -58,7 +59,7 @@ impl Kinds for TopCall {
 // The calls of all crates.
 struct AllCalls;
 
-// What the calls of a crate answer, where those before them have no case of this kind.
+// What the calls of a crate answer, if the calls before them have no case of this kind.
 fn or_else<K: Kinds>(
     before: Result<Answer, Fault>,
     alloc: Global,

@@ -1,13 +1,13 @@
-//! Cases on a run that writes a calibration text: the words and the input are those of a case `run`. Where the status is 0,
-//! what was written is read again, and it is due what it says: that it is of version 2, and a line for each entry, the
-//! modules, the fibres and the tables each in the order of the text.
+//! Cases on a run that writes a calibration text: the words and the input are as in a case `run`. If the status is 0,
+//! what was written is read again, and what it says is expected: that it is of version 2, and a line for each entry,
+//! the modules, the fibres and the tables each in the order of the text.
 //!
 //!     version = 2
 //!     module NAME TX_NM RX_NM : TX RX TRANSITION ERR
 //!     fibre NAME KAPPA ERR
 //!     table NAME TABLE_ERR : X,Y X,Y ..
 //!
-//! A text that is refused stands as `refused CODE PLACE`. What was written with another status is due as it stands.
+//! A text that is refused is printed as `refused CODE PLACE`. What was written with another status is expected as is.
 use crate::running::{AT_ONCE, borrowed, ran};
 use std::alloc::{AllocError, Global};
 use wrp_base::ConfFault;
@@ -19,7 +19,7 @@ use wrp_suite::{Answer, Case, Fault};
 // The line of a text that says its version.
 const VERSION: &str = "version = 2";
 
-// Tells whether a text says its version.
+// Appends whether a text says its version.
 fn tell_version(told: &mut String, octets: &[u8]) -> Result<(), AllocError> {
     let text = str::from_utf8(octets).unwrap_or("");
     if text.lines().any(|line| line == VERSION) {
@@ -29,7 +29,7 @@ fn tell_version(told: &mut String, octets: &[u8]) -> Result<(), AllocError> {
     Ok(())
 }
 
-// Tells an entry of a module.
+// Appends an entry of a module.
 fn tell_entry(
     alloc: Global,
     told: &mut String,
@@ -43,14 +43,14 @@ fn tell_entry(
     told.push_str(line.as_str())
 }
 
-// Tells a fibre's law.
+// Appends a fibre's law.
 fn tell_fibre(alloc: Global, told: &mut String, fibre: &ListedFibre) -> Result<(), AllocError> {
     let name = fibre.name();
     let (kappa, err) = (fibre.fibre().kappa, fibre.fibre().err);
     told.push_str(format!(in alloc; "fibre {name} {kappa} {err}\n")?.as_str())
 }
 
-// Tells a fibre's table, where it has one.
+// Appends a fibre's table, if it has one.
 fn tell_table(alloc: Global, told: &mut String, fibre: &ListedFibre) -> Result<(), AllocError> {
     let Some((points, err)) = fibre.table() else {
         return Ok(());
@@ -64,7 +64,7 @@ fn tell_table(alloc: Global, told: &mut String, fibre: &ListedFibre) -> Result<(
     told.push('\n')
 }
 
-// Tells all entries of a database.
+// Appends all entries of a database.
 fn tell_database(alloc: Global, told: &mut String, db: &CalDb) -> Result<(), AllocError> {
     for module in db.modules() {
         for entry in module.entries() {
@@ -80,7 +80,7 @@ fn tell_database(alloc: Global, told: &mut String, db: &CalDb) -> Result<(), All
     Ok(())
 }
 
-// Tells why a text is refused. The fault is looked at and not taken apart: `place` stays where it is.
+// Appends why a text is refused. The fault is looked at and not taken apart: `place` stays where it is.
 fn tell_fault(alloc: Global, told: &mut String, fault: &ConfFault) -> Result<(), Fault> {
     match fault {
         ConfFault::Fault { code, place } => {
@@ -91,7 +91,7 @@ fn tell_fault(alloc: Global, told: &mut String, fault: &ConfFault) -> Result<(),
     }
 }
 
-// Tells what a text that was written says.
+// Appends what a text that was written says.
 fn tell_text(alloc: Global, told: &mut String, octets: &[u8]) -> Result<(), Fault> {
     match CalDb::read(alloc, octets) {
         Ok(db) => Ok(tell_database(alloc, told, &db)?),

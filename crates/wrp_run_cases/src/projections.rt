@@ -1,6 +1,6 @@
 //! Cases on an audit and the replays of what it gives its nodes: the words are nodes, and for each of them a line
-//! `NODE again` is due where the replay prints the node's lines of the audit without their true offsets; else what the
-//! replay prints stands in its place. The status is that of the audit, which has to print something.
+//! `NODE again` is expected if the replay prints the node's lines of the audit without their true offsets; else what
+//! the replay prints comes in its place. The status is the audit's, which has to print something.
 use crate::running::{AT_ONCE, Ended, ran};
 use crate::texts::{push_line, text_of, with_records};
 use std::alloc::{AllocError, Global};
@@ -30,7 +30,7 @@ fn replayed(alloc: Global, input: &[u8], node: &str) -> Result<Ended, Fault> {
     )?)
 }
 
-// Tells whether the replay of a node gives its lines of an audit.
+// Appends whether the replay of a node gives its lines of an audit.
 fn tell_node(
     alloc: Global,
     told: &mut String,

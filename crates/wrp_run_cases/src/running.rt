@@ -12,7 +12,7 @@ pub struct Way {
     pub gives: usize,
     /// The call of the source that fails, counted from 1.
     pub source: u32,
-    /// Whether the source fails where it is at its end.
+    /// Whether the source fails when it is at its end.
     pub breaks: bool,
     /// How many octets the sink takes at most at a call.
     pub takes: usize,
@@ -62,7 +62,8 @@ pub fn borrowed<'a>(alloc: Global, words: &'a [String]) -> Result<Vec<&'a str>, 
     Ok(texts)
 }
 
-// What a run answers. It stands alone, since the contract of `run` is long: what calls it is proved beside all of it.
+// What a run answers. It is a function of its own, since the contract of `run` is long: its caller is proved beside all
+// of it.
 fn status_of<N: Link>(
     alloc: Global,
     words: &[&str],

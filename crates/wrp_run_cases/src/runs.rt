@@ -1,16 +1,16 @@
 //! Cases on `run`: the status, and the octets that the sink takes. A case may set for how many octets the sink has
-//! `room`; which call of the `source` and of the `sink` fails, counted from 1, and which of the link, as `link_call`; how
-//! many octets the source `gives` and the sink `takes` at most at a call; how many `calls` the link takes, 0 where it is left out; and how many
-//! octets are `left` in the source at least, behind the run.
+//! `room`; which call of the `source` and of the `sink` fails, counted from 1, and which of the link, as `link_call`;
+//! how many octets the source `gives` and the sink `takes` at most at a call; how many `calls` the link takes, 0 if it
+//! is left out; and how many octets at least are `left` in the source after the run.
 use crate::running::{AT_ONCE, Ended, Way, borrowed, ran};
 use std::alloc::{AllocError, Global};
 use wrp_run::Status;
 use wrp_suite::{Answer, Case};
 
-// The room beyond what is due, so that a run which writes too much shows what it writes.
+// The room beyond what is expected, so that a run which writes too much shows what it writes.
 const BEYOND: usize = 4_096;
 
-// A number that a case sets, or what stands for it.
+// A number that a case sets, or its default.
 fn number_or(case: &Case, name: &str, other: usize) -> usize {
     match case.setting(name) {
         Some(number) => number as usize,
@@ -32,8 +32,8 @@ pub fn way_of(case: &Case) -> Way {
     }
 }
 
-// Whether a text is one line, which goes on with further commands behind what is due: the usage line grows with the
-// program.
+// Whether a text is one line, which goes on with further commands after what is expected: the usage line grows with
+// the program.
 fn goes_on(text: &[u8], due: &[u8]) -> bool {
     let Some(line) = due.strip_suffix(b"\n") else {
         return false;
@@ -45,7 +45,7 @@ fn goes_on(text: &[u8], due: &[u8]) -> bool {
     ends == 1 && more.ends_with(b"\n") && more.starts_with(b" | ")
 }
 
-// Tells what is left in the source, where that is less than is due.
+// Appends what is left in the source, if that is less than what is expected.
 fn tell_left(
     alloc: Global,
     octets: &mut Vec<u8>,
@@ -59,7 +59,7 @@ fn tell_left(
     Ok(())
 }
 
-/// What `run` answers. The usage line is due by its front.
+/// What `run` answers. Of the usage line only the front is expected.
 pub fn answer(alloc: Global, case: &Case) -> Result<Answer, AllocError> {
     let words = borrowed(alloc, &case.words)?;
     let Ended {

@@ -24,9 +24,9 @@ struct Script<'a> {
     waiting: Vec<Waits>,
 }
 
-/// A link that tells its calls. A step of its script, `K=A,B,..`, says what comes at the other end for the datagram of
-/// number K that is sent, counted from 1: the sent ones of these numbers, or octets as `x` and hex, or nothing where nothing
-/// stands behind the `=`. Where no step says it, the datagram itself comes. A `send` whose step cannot be made fails.
+/// A link that reports its calls. A step of its script, `K=A,B,..`, says what comes at the other end for the datagram
+/// of number K that is sent, counted from 1: the sent ones of these numbers, or octets as `x` and hex, or nothing if
+/// nothing follows the `=`. If no step says it, the datagram itself comes. A `send` whose step cannot be made fails.
 #[derive(Drop)]
 pub struct Scripted<'a> {
     script: Script<'a>,
@@ -79,7 +79,7 @@ fn said_by(alloc: Global, sent: &[Frame], part: &str) -> Result<Frame, Fault> {
 }
 
 impl<'a> Script<'a> {
-    // Puts a datagram behind those that wait at an end.
+    // Puts a datagram after the ones that wait at an end.
     fn put(&mut self, end: u32, frame: Frame) -> Result<(), AllocError> {
         self.waiting.push(Waits { end, frame })?;
         Ok(())

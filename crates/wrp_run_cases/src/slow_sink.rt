@@ -4,8 +4,8 @@ ghost use Rattle.std.specs.Prelude.{◌≡◌, ◌≤◌, length};
 use std::alloc::Global;
 use wrp_io::{Failed, Sink};
 
-/// A sink with room for so many octets, that takes at most so many a call, and whose call of one number, counted from 1,
-/// fails. So does a call of which it can take nothing.
+/// A sink with room for so many octets, that takes at most so many at a call, and whose call of one number, counted
+/// from 1, fails. So does a call of which it can take nothing.
 #[derive(Drop)]
 pub struct SlowSink {
     taken: Vec<u8>,
@@ -38,7 +38,7 @@ impl SlowSink {
         (taken, before)
     }
 
-    // Takes octets, where there is memory for them. Answers whether there is.
+    // Takes octets, if there is memory for them. Returns whether there is.
     fn keep(&mut self, octets: &[u8]) -> bool
         ensures { self.new.faults ≡ self.old.faults }
     {

@@ -3,8 +3,8 @@ ghost use Rattle.std.specs.Prelude.{◌≤◌, length};
 
 use wrp_io::{Failed, Source};
 
-/// A source of octets, that gives at most so many a call, and whose call of one number, counted from 1, fails. Where it
-/// breaks off, each call fails that comes when all octets were given.
+/// A source of octets, that gives at most so many at a call, and whose call of one number, counted from 1, fails. If
+/// it breaks off, each call fails that comes when all octets were given.
 #[derive(Drop)]
 pub struct SlowSource<'a> {
     octets: &'a [u8],

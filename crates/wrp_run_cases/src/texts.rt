@@ -3,7 +3,7 @@ use crate::running::Ended;
 use std::alloc::{AllocError, Global};
 use wrp_suite::Fault;
 
-// The line that stands between a network and its records.
+// The line between a network and its records.
 const BETWEEN: &str = "---\n";
 
 /// What a run wrote, as a text.

@@ -1,6 +1,6 @@
-//! Cases on the `track` lines of a run: words and input are those of a case `run`, and for each node and each bound that
-//! its lines print a line `NODE BOUND` is due, in the order in which they come first. A line whose true offset is beyond
-//! its bound stands whole.
+//! Cases on the `track` lines of a run: words and input are as in a case `run`, and for each node and each bound that
+//! its lines print a line `NODE BOUND` is expected, in the order in which they come first. A line whose true offset is
+//! beyond its bound is printed whole.
 use crate::running::{AT_ONCE, borrowed, ran};
 use std::alloc::{AllocError, Global};
 use wrp_suite::{Answer, Case};
@@ -34,7 +34,7 @@ fn push_once(told: &mut String, line: &str) -> Result<(), AllocError> {
     Ok(())
 }
 
-// Tells the bound of a `track` line, or the whole line.
+// Appends the bound of a `track` line, or the whole line.
 fn tell_line(alloc: Global, told: &mut String, line: &str) -> Result<(), AllocError> {
     match track_of(line) {
         Some((node, bound, off)) if is_within(off, bound) => {
@@ -45,7 +45,7 @@ fn tell_line(alloc: Global, told: &mut String, line: &str) -> Result<(), AllocEr
     }
 }
 
-/// What the `track` lines of a run tell.
+/// What the `track` lines of a run give.
 pub fn answer(alloc: Global, case: &Case) -> Result<Answer, AllocError> {
     let words = borrowed(alloc, &case.words)?;
     let ended = ran(alloc, &words, &case.input, AT_ONCE)?;

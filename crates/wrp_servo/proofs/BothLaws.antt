@@ -20,7 +20,7 @@ use Rattle.wrp_servo.proofs.ChainLaws.{call-other}
 use Rattle.wrp_servo.proofs.SeenLaws.{seen-is}
 use Rattle.wrp_servo.proofs.SinceLaws.{Runs, stands_since}
 
--- ---- in TRACK the chain stands exactly as long as TRACK does
+-- ---- in TRACK the chain lasts exactly as long as TRACK does
 
 abbrev Same : Core → Type 0
 Same v = is_some v.first ≡ is_track v.state
@@ -110,7 +110,7 @@ call-leaves x v m (CallLink on) = or_false (not (is_some on))
 call-leaves x v m (CallCarrier up) = or_false (not up)
 call-leaves x v m CallReset = refl
 
--- ---- nothing enters TRACK where it stands
+-- ---- nothing enters TRACK while the state is TRACK
 
 is_track-of : (s : ServoState) → is_track s ≡ true → is_wait_stable s ≡ false
 is_track-of Track h = refl
@@ -176,11 +176,11 @@ tracks x = record {
       absurd cc;
 }
 
--- TRACK stands exactly where a call enters it and none after it leaves it
+-- the state is TRACK if and only if a call enters it and no later call leaves it
 pub track_stands_since : (x : ServoSetting) (calls : List Call) → (is_track (run x calls).state ≡ true) ↔ Since (enters_track x) (leaves_track x) calls
 track_stands_since x calls = stands_since (enters_track x) (leaves_track x) (λ c. is_track (run x c).state) (tracks x) calls
 
--- where TRACK stands, so does the chain
+-- in TRACK there is a chain
 pub track_holds_chain : (x : ServoSetting) (calls : List Call) → is_track (run x calls).state ≡ true → is_some (run x calls).first ≡ true
 track_holds_chain x calls = (stands x calls).chain
 
@@ -204,6 +204,6 @@ chains x = record {
   apart = λ call calls h e. not_both (is_some (run x calls).first) (starts x (seen x calls) call) _ h e;
 }
 
--- a chain stands exactly where a call starts it and none after it ends it
+-- there is a chain if and only if a call starts it and no later call ends it
 pub chain_stands_since : (x : ServoSetting) (calls : List Call) → (is_some (run x calls).first ≡ true) ↔ Since (chain_starts x) (chain_ends x) calls
 chain_stands_since x calls = stands_since (chain_starts x) (chain_ends x) (λ c. is_some (run x c).first) (chains x) calls

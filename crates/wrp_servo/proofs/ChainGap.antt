@@ -14,7 +14,7 @@ use Rattle.wrp_servo.proofs.ChainSignals.{stood_or_starts}
 use Rattle.wrp_servo.proofs.Gone.{Gone, heart, gone}
 use Rattle.wrp_servo.proofs.Locked.{chain_stays_held}
 
--- ---- a chain that stands has not ended by the gap
+-- ---- while there is a chain, it has not ended by the gap
 
 no_gap : (held gap old track : Bool) → held ≡ false → ((not held && gap) || (track && old)) ≡ false → gap ≡ false
 no_gap true gap old track h e = absurd cc

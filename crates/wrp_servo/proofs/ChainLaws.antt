@@ -1,4 +1,4 @@
--- One call: a chain stands after it exactly where the definitions say.
+-- One call: there is a chain after it exactly when the definitions say.
 use Rattle.std.proofs.Common.{◌≡◌, refl, ap, ◌∙◌, sym, ℕ, ℤ, Bool, true, false, cond, not, ◌&&◌, ◌||◌, nat_le, ◌-◌, is_some, Option, None, Some}
 use Rattle.std.specs.Prelude.{int_le}
 use Rattle.std.proofs.lemmas.Bool.{and_left}
@@ -41,7 +41,7 @@ judged-first v _ h = refl
 holdover_ticked-first : (v : Core) → (holdover_ticked v).first ≡ v.first
 holdover_ticked-first v = either-first (nat_le v.set.holdover (v.ticks - v.left_tick)) (record v { state = cond (is_some v.signals.link) SyncTai Uninit; phase = restarted v.phase }) v v.first refl refl
 
--- the end of a chain that stands
+-- the end of a chain
 pub record IsEnded (v : Core) : Type 0 where
   first : v.first ≡ None
   track : is_track v.state ≡ false
@@ -53,7 +53,7 @@ ended-some v m SyncPhase = record { first = refl; track = refl }
 ended-some v m WaitStable = record { first = refl; track = refl }
 ended-some v m _ = record { first = refl; track = refl }
 
--- ---- a chain stands, in a state other than TRACK
+-- ---- there is a chain, in a state other than TRACK
 
 abbrev pub chainer : Core → ℕ → ServoState → Core
 chainer v m s = record v { state = s; first = Some m }
@@ -150,7 +150,7 @@ answered-some x v m s f y (Some d) h =
       | false ↦ ap is_some (ended-some v m s).first
     ]
 
--- any call where a chain stands, in a state other than TRACK
+-- any call while there is a chain, in a state other than TRACK
 call-some : (x : ServoSetting) (v : Core) (m : ℕ) (s : ServoState) (call : Call) → is_track s ≡ false → is_some (after x (chainer v m s) call).first ≡ not (ends x (chainer v m s) call)
 call-some x v m s (CallSample n base bits) h = sample-some v m s n base bits h
 call-some x v m s (CallMeasured f y) h = answered-some x v m s f y v.signals.link h
@@ -167,7 +167,7 @@ call-some x v m s (CallCarrier false) h =
     ap is_some (uninit_outside_holdover-first w w.state ∙ (ended-some (carrier_gone v) m s).first)
 call-some x v m s CallReset h = refl
 
--- ---- no chain stands, in a state other than TRACK
+-- ---- there is no chain, in a state other than TRACK
 
 abbrev pub loose : Core → ServoState → Core
 loose v s = record v { state = s; first = None }

@@ -10,13 +10,13 @@ use Rattle.wrp_servo.specs.Told.{IsTold}
 use Rattle.wrp_servo.proofs.BothLaws.{next}
 use Rattle.wrp_servo.proofs.ToldLaws.{last_told}
 
--- a chain that stands stood before and did not end, or has started
+-- if there is a chain, there was one before and it did not end, or it has started
 pub stood_or_starts : {P : Type 0} (stood ends starts : Bool) → cond stood (not ends) starts ≡ true → (stood ≡ true → ends ≡ false → P) → (starts ≡ true → P) → P
 stood_or_starts true true starts h f g = absurd cc
 stood_or_starts true false starts h f g = f refl refl
 stood_or_starts false ends starts h f g = g h
 
--- what was told where a chain starts
+-- what was given when a chain starts
 record StartsWith (v : Core) : Type 0 where
   carrier : v.signals.carrier ≡ true
   link : is_some v.signals.link ≡ true

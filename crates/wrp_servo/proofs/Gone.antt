@@ -1,4 +1,4 @@
--- The ticks of a servo are those at its last good sample and those since.
+-- The ticks of a servo are the ticks at its last good sample and the ticks since.
 use Rattle.std.proofs.Common.{◌≡◌, refl, ap, ◌∙◌, sym, ℕ, Bool, true, false, cond, nat_le, ◌+◌, ◌-◌, is_some, Option, None, Some, List, [], ◌∷◌, subst, arith}
 use Rattle.wrp_base.specs.declared.link.ServoState.{ServoState}
 use Rattle.wrp_base.specs.declared.link.ServoState.TheVariants.{Uninit, SyncTai, SyncNsec, SyncPhase, WaitStable, Track, Holdover}
@@ -50,7 +50,7 @@ restarted-heart : (v : Core) (s : ServoState) → heart (restarted_outside_holdo
 restarted-heart v Holdover = refl
 restarted-heart v _ = refl
 
--- ---- the ticks of a servo are those at its last good sample and those since
+-- ---- the ticks of a servo are the ticks at its last good sample and the ticks since
 
 pub record Gone (x : ServoSetting) (h : Heart) (n : ℕ) : Type 0 where
   pub set : h.set ≡ x.set

@@ -23,7 +23,7 @@ use Rattle.wrp_servo.proofs.Gone.{set_is}
 use Rattle.wrp_servo.proofs.Locked.{chain_stays_held}
 use Rattle.wrp_servo.proofs.Outside.{out, call-low}
 
--- HOLDOVER stands, n ticks after TRACK was left
+-- the state is HOLDOVER, n ticks after TRACK was left
 record Held (v : Core) (n : ℕ) : Type 0 where
   state : is_holdover v.state ≡ true
   ticks : v.ticks ≡ v.left_tick + n
@@ -37,7 +37,7 @@ either-falls : (b : Bool) (v w : Core) → Falls v → Falls w → Falls (cond b
 either-falls true v w h k = h
 either-falls false v w h k = k
 
--- TRACK stands on
+-- the state stays TRACK
 up : (v : Core) → is_track v.state ≡ true → Falls v
 up v h e = absurd cc
 
@@ -96,7 +96,7 @@ falls-at x v SyncPhase first call t h r e = absurd cc
 falls-at x v WaitStable first call t h r e = absurd cc
 falls-at x v Holdover first call t h r e = absurd cc
 
--- ---- HOLDOVER stands on but for its last tick
+-- ---- the state stays HOLDOVER except at its last tick
 
 abbrev pub holder : Core → Core
 holder v = record v { state = Holdover; first = None }
@@ -141,7 +141,7 @@ stays-at x v SyncNsec first call since t h r e few = absurd cc
 stays-at x v SyncPhase first call since t h r e few = absurd cc
 stays-at x v WaitStable first call since t h r e few = absurd cc
 
--- where it stands after a call, that call was not its last tick
+-- if the state is HOLDOVER after a call, that call was not its last tick
 either-low : (b : Bool) (v w : Core) → is_holdover v.state ≡ false → is_holdover (cond b v w).state ≡ true → b ≡ false
 either-low true v w h e = absurd cc
 either-low false v w h e = refl
@@ -188,7 +188,7 @@ more (CallLink on) since = omega arith
 more (CallCarrier up) since = omega arith
 more CallReset since = omega arith
 
--- from the call that left TRACK on HOLDOVER stands
+-- from the call that left TRACK on, the state is HOLDOVER
 holds : (x : ServoSetting) (since : List Call) (leave : Call) (before : List Call) → is_track (run x before).state ≡ true → leaves_track x before leave ≡ true → is_reset leave ≡ false →
     NoneResets since → ticks_among since < x.set.holdover → Held (run x (since ++ leave ∷ before)) (ticks_among since)
 holds x [] leave before stood left no_reset none few =

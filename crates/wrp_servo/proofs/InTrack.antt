@@ -1,4 +1,4 @@
--- In TRACK a four stands, and the loop's error and the residual are within their limits.
+-- In TRACK there is a four, and the loop's error and the residual are within their limits.
 use Rattle.std.proofs.Common.{◌≡◌, refl, ap, sym, ℕ, ℤ, Bool, true, false, cond, ◌&&◌, nat_le, ◌-◌, is_some, Option, None, Some, [], ◌∷◌, subst}
 use Rattle.wrp_base.specs.declared.link.Deltas.{Deltas}
 use Rattle.wrp_base.specs.declared.link.ServoState.{ServoState}

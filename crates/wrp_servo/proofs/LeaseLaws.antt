@@ -1,4 +1,4 @@
--- The lease is fresh exactly where a call told so and none after that ended it.
+-- The lease is fresh if and only if a call gave a fresh lease and no later call ended it.
 use Rattle.std.proofs.Common.{◌≡◌, ◌↔◌, refl, ap, ◌∙◌, sym, Bool, true, false, cond, not, List, ◌∷◌}
 use Rattle.wrp_servo.specs.Call.{Call, CallLease, CallReset, run}
 use Rattle.wrp_servo.specs.Laws.{LeaseSince}

@@ -1,4 +1,4 @@
--- The calls that leave TRACK where a chain stands, all causes in one.
+-- The calls that leave TRACK while there is a chain, all causes in one.
 use Rattle.std.proofs.Common.{ℕ, ℤ, Bool, true, false, not, ◌&&◌, ◌||◌, is_some, Option, None, Some}
 use Rattle.wrp_base.specs.declared.link.Deltas.{Deltas}
 use Rattle.wrp_base.specs.declared.measurement.Four.{Four}

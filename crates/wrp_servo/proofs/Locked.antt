@@ -1,4 +1,4 @@
--- Where a chain stands, the lock detector is locked, or the loop has restarted since its last good sample.
+-- While there is a chain, the lock detector is locked, or the loop has restarted since its last good sample.
 use Rattle.std.proofs.Common.{◌≡◌, refl, ap, ℕ, ℤ, Bool, true, false, cond, not, ◌&&◌, ◌||◌, nat_le, ◌-◌, is_some, Option, None, Some, [], ◌∷◌}
 use Rattle.std.specs.Prelude.{int_le}
 use Rattle.wrp_base.specs.declared.link.Deltas.{Deltas}
@@ -23,7 +23,7 @@ either-held : (b : Bool) (v w : Core) → IsHeld v → IsHeld w → IsHeld (cond
 either-held true v w h k = h
 either-held false v w h k = k
 
--- after the end of a chain none stands
+-- after the end of a chain there is none
 pub none-first : (v : Core) (first : Option ℕ) (s : ServoState) → is_some (ended (record v { state = s; first = first })).first ≡ false
 none-first v None s = refl
 none-first v (Some m) Track = refl
@@ -93,7 +93,7 @@ sample-held v n base bits h =
     ] in
     known (hears v) refl
 
--- no chain stands in HOLDOVER
+-- there is no chain in HOLDOVER
 none_held : (v : Core) → IsHeld (record v { state = Holdover }) → IsHeld (holdover_ticked (record v { state = Holdover }))
 none_held v h =
     let w : Core = record v { state = Holdover } in

@@ -7,7 +7,7 @@ use Rattle.wrp_servo.specs.declared.machine.Core.{Core}
 use Rattle.wrp_servo.specs.Table.{ended}
 use Rattle.wrp_servo.specs.Sizes.{HasRoom, FitsFour}
 
--- a servo with less kept, and the same loop but for its detector
+-- a servo with less kept, and the same loop except for its detector
 pub record Less (v w : Core) : Type 0 where
   pub s : w.phase.s ≡ v.phase.s
   pub goal : w.phase.goal ≡ v.phase.goal

@@ -59,7 +59,7 @@ abbrev put : Core → Signals → ℕ → ℕ → ℕ → Unwrapping → ℤ →
 put v signals last ticks good unwrap u =
     record v { signals = signals; last = last; ticks = ticks; good_tick = good; phase = record v.phase { unwrap = unwrap; u = u } }
 
--- the signals as they were told last
+-- the signals as last given
 abbrev signals_told : List Call → Signals
 signals_told calls = record { carrier = carrier_told calls; link = link_told calls; lease = lease_told calls }
 

@@ -1,4 +1,4 @@
--- Carrier, link, lease and ticks are what the list of calls told last.
+-- The carrier, the link, the lease and the ticks are the ones that the list of calls last gave.
 use Rattle.std.proofs.Common.{◌≡◌, refl, ap, ◌∙◌, sym, ℕ, ℤ, Bool, true, false, cond, nat_le, ◌+◌, ◌-◌, is_some, Option, None, Some, List, [], ◌∷◌, subst, ◌≤◌, arith}
 use Rattle.wrp_base.specs.declared.link.Deltas.{Deltas}
 use Rattle.wrp_base.specs.declared.link.ServoState.{ServoState}
@@ -14,7 +14,7 @@ use Rattle.wrp_servo.specs.Call.{Call, CallSample, CallMeasured, CallTick, CallL
 use Rattle.wrp_servo.specs.Told.{carrier_told, link_told, lease_told, ticks_told, ToldLast}
 use Rattle.wrp_servo.proofs.Rests.{Rest, end-rest, uninit_outside_holdover-rest, linked-rest, judged-rest, chained-rest, later-rest, answered-rest}
 
--- what the node told
+-- what the servo was given by its node
 record Heart : Type 0 where
   signals : Signals
   ticks : ℕ
@@ -79,7 +79,7 @@ tick-heart v SyncNsec = later-heart (one_tick (record v { state = SyncNsec }))
 tick-heart v SyncPhase = later-heart (one_tick (record v { state = SyncPhase }))
 tick-heart v WaitStable = later-heart (one_tick (record v { state = WaitStable }))
 
--- what one more call tells
+-- what one more call gives
 told-by : Heart → Call → Heart
 told-by h (CallCarrier up) = record h { signals = record h.signals { carrier = up } }
 told-by h (CallLink on) = record h { signals = record h.signals { link = on } }
@@ -106,7 +106,7 @@ unfolding told-by
 told-ticks h CallReset = omega arith
 told-ticks h _ = omega arith
 
--- a call brings one tick at the most
+-- a call brings at most one tick
 pub after-ticks : (x : ServoSetting) (v : Core) (call : Call) → (after x v call).ticks ≤ v.ticks + 1
 after-ticks x v call = subst (λ (n : ℕ). n ≤ v.ticks + 1) (sym (ap (λ (h : Heart). h.ticks) (call-heart x v call))) (told-ticks (heart v) call)
 

@@ -1,4 +1,4 @@
--- One call: TRACK is entered and left exactly where the definitions say.
+-- One call: TRACK is entered and left exactly when the definitions say.
 use Rattle.std.proofs.Common.{◌≡◌, refl, ◌∙◌, sym, ℕ, ℤ, Bool, true, false, cond, not, ◌&&◌, ◌||◌, nat_le, ◌-◌, is_some, Option, None, Some, List, [], ◌∷◌, subst}
 use Rattle.std.specs.Prelude.{int_le}
 use Rattle.wrp_base.specs.declared.link.Deltas.{Deltas}
@@ -20,7 +20,7 @@ use Rattle.wrp_servo.proofs.Leaving.{leaves, leaves_at, leaves_by}
 abbrev pub tracker : Core → ℕ → Core
 tracker v m = record v { state = Track; first = Some m }
 
--- what a servo is after a call: TRACK stands exactly where it says, and then so does the chain
+-- what a servo is after a call: its state is TRACK exactly when `r` says so, and then there is a chain
 pub record Ends (v : Core) (r : Bool) : Type 0 where
   pub track : is_track v.state ≡ r
   pub chain : is_track v.state ≡ true → is_some v.first ≡ true
@@ -79,7 +79,7 @@ measured-track x v m f y (Some d) =
       ]
     ]
 
--- a call in TRACK leaves it exactly where it says
+-- a call in TRACK leaves it exactly when the definition says
 pub call-track : (x : ServoSetting) (v : Core) (m : ℕ) (call : Call) → Ends (after x (tracker v m) call) (not (leaves x (tracker v m) call))
 call-track x v m (CallSample n base bits) = sample-track v m n base bits
 call-track x v m (CallMeasured f y) = measured-track x v m f y v.signals.link

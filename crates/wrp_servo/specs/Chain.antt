@@ -1,5 +1,5 @@
 -- The chain of good samples: which call starts it, which one ends it, and what leaves TRACK alone (this project's
--- profile). Each cause is asked of what stands before the call.
+-- profile). Each cause is judged by what the servo holds before the call.
 use Rattle.std.specs.Prelude.{ℕ, ℤ, Bool, true, false, not, ◌&&◌, ◌||◌, is_some, Option, None, Some}
 use Rattle.wrp_base.specs.declared.link.Deltas.{Deltas}
 use Rattle.wrp_base.specs.declared.link.ServoState.{ServoState}

@@ -11,41 +11,41 @@ use Rattle.wrp_servo.specs.Servo.{answer_to}
 use Rattle.wrp_servo.specs.Tags.{heard_tag}
 use Rattle.wrp_servo.specs.Told.{carrier_told, link_told, lease_told, lease_starts, lease_ends, ticks_since_good}
 
--- TRACK stands exactly where a call entered it and none after that left it
+-- the state is TRACK if and only if a call entered it and no later call left it
 abbrev pub TrackSince : Type 0
 TrackSince =
     (x : ServoSetting) (calls : List Call) →
     (is_track (run x calls).state ≡ true) ↔ Since (enters_track x) (leaves_track x) calls
 
--- a chain stands exactly where a call started it and none after that ended it
+-- there is a chain if and only if a call started it and no later call ended it
 abbrev pub ChainSince : Type 0
 ChainSince =
     (x : ServoSetting) (calls : List Call) →
     (is_some (run x calls).first ≡ true) ↔ Since (chain_starts x) (chain_ends x) calls
 
--- the lease is fresh exactly where a call told so and none after that told its lapse, nor a reset came
+-- the lease is fresh if and only if a call gave a fresh lease and no later call gave a lapsed one or was a reset
 abbrev pub LeaseSince : Type 0
 LeaseSince =
     (x : ServoSetting) (calls : List Call) →
     ((run x calls).signals.lease ≡ true) ↔ Since lease_starts lease_ends calls
 
--- where TRACK stands, a chain stands
+-- in TRACK there is a chain
 abbrev pub TrackHasChain : Type 0
 TrackHasChain =
     (x : ServoSetting) (calls : List Call) → is_track (run x calls).state ≡ true → is_some (run x calls).first ≡ true
 
--- in TRACK a four stands, and the loop's error and the residual are within their limits
+-- in TRACK there is a four, and the loop's error and the residual are within their limits
 pub record InTrack (v : Core) : Type 0 where
   pub kept : is_some v.kept ≡ true
   pub calm : is_calm v ≡ true
   pub near : is_near v.set.track_tau v.phase v.kept ≡ true
 
--- after any list of calls that ends in TRACK, a four stands and both limits of TRACK are kept
+-- after any list of calls that ends in TRACK, there is a four and both limits of TRACK are kept
 abbrev pub TrackIsNear : Type 0
 TrackIsNear = (x : ServoSetting) (calls : List Call) → is_track (run x calls).state ≡ true → InTrack (run x calls)
 
--- with a chain the lock detector is locked, or the loop restarted since its last good sample (a carrier came where one
--- stood), and the state is not HOLDOVER
+-- with a chain the lock detector is locked, or the loop restarted since its last good sample (a carrier came while
+-- there was one), and the state is not HOLDOVER
 pub record InChain (v : Core) : Type 0 where
   pub locked : (v.phase.lock.locked || v.phase.fresh) ≡ true
   pub state : is_holdover v.state ≡ false
@@ -54,7 +54,7 @@ pub record InChain (v : Core) : Type 0 where
 abbrev pub ChainIsHeld : Type 0
 ChainIsHeld = (x : ServoSetting) (calls : List Call) → is_some (run x calls).first ≡ true → InChain (run x calls)
 
--- what was told last while a chain stands: a carrier, a link that is on, and a fresh lease
+-- what was last given while there is a chain: a carrier, a link that is on, and a fresh lease
 pub record HasSignals (calls : List Call) : Type 0 where
   pub carrier : carrier_told calls ≡ true
   pub link : is_some (link_told calls) ≡ true
@@ -64,7 +64,7 @@ pub record HasSignals (calls : List Call) : Type 0 where
 abbrev pub ChainHasSignals : Type 0
 ChainHasSignals = (x : ServoSetting) (calls : List Call) → is_some (run x calls).first ≡ true → HasSignals calls
 
--- while a chain stands, at most `gap` ticks passed since the last good sample
+-- while there is a chain, at most `gap` ticks passed since the last good sample
 abbrev pub ChainKeepsGap : Type 0
 ChainKeepsGap =
     (x : ServoSetting) (calls : List Call) → is_some (run x calls).first ≡ true → ticks_since_good x calls ≤ x.set.gap

@@ -1,4 +1,5 @@
--- What stands after a list of calls, found by looking back over it, and the causes asked there (this project's profile).
+-- What a servo holds after a list of calls, by looking back over it, and the causes as judged there (this
+-- project's profile).
 use Rattle.std.specs.Prelude.{ℕ, ℤ, pos, ◌-◌, max, Bool, cond, not, ◌&&◌, ◌||◌, is_some, Option, None, Some, List, [], ◌∷◌}
 use Rattle.wrp_phase.specs.Unwrapping.{last_tag, unwrapped}
 use Rattle.wrp_servo.specs.declared.machine.Core.{Core}
@@ -9,13 +10,13 @@ use Rattle.wrp_servo.specs.Tags.{heard_tag, tags}
 use Rattle.wrp_servo.specs.Told.{carrier_told, link_told, lease_told, ticks_told, ticks_since_good}
 use Rattle.wrp_servo.specs.Tracking.{enters}
 
--- the phase after a sample, in tau: unchanged where it is not good; else the sum of the wrapped differences of the good tags
--- since the loop's last restart, this one among them
+-- the phase after a sample, in tau: unchanged if it is not good; else the sum of the wrapped differences of the good
+-- tags since the loop's last restart, this one among them
 abbrev pub phase_with : ServoSetting → List ℕ → ℤ → Option ℕ → ℤ
 phase_with x tags before None = before
 phase_with x tags before (Some tag) = unwrapped x.set.clock (tag ∷ tags)
 
--- the phase u at the last good sample since the last reset, in tau: 0 where there was none
+-- the phase u at the last good sample since the last reset, in tau: 0 if there was none
 abbrev pub phase_told : ServoSetting → List Call → ℤ
 phase_told x [] = pos 0
 phase_told x (CallReset ∷ calls) = pos 0
@@ -30,9 +31,9 @@ last_told x (CallReset ∷ calls) = 0
 last_told x (CallSample n base bits ∷ calls) = cond (hears (run x calls)) (max (last_told x calls) n) (last_told x calls)
 last_told x (_ ∷ calls) = last_told x calls
 
--- what stands after a list of calls: carrier, link and lease as they were told last, the ticks and those since the
+-- what a servo holds after a list of calls: carrier, link and lease as last given, the ticks and the ticks since the
 -- last good sample as they are counted, the greatest number of a sample, and the phase as a sum of tags. The state, the
--- chain, the four, the calm count, the setpoint, its goal, the controller and the detector are those of the rows.
+-- chain, the four, the calm count, the setpoint, its goal, the controller and the detector are as the rows have them.
 abbrev pub seen : ServoSetting → List Call → Core
 seen x calls = record (run x calls) {
   signals = record { carrier = carrier_told calls; link = link_told calls; lease = lease_told calls };
@@ -49,7 +50,7 @@ seen x calls = record (run x calls) {
   };
 }
 
--- a call starts a chain, where none stands
+-- a call starts a chain, if there is none
 abbrev pub chain_starts : ServoSetting → List Call → Call → Bool
 chain_starts x calls call = not (is_some (run x calls).first) && starts x (seen x calls) call
 

@@ -58,8 +58,9 @@ is_half v est = is_within (half_period v.set.clock) est
 abbrev pub is_below_second : ℤ → Bool
 is_below_second est = int_lt (pos (unsigned_abs est)) second
 
--- a measurement in SYNC_NSEC, or in SYNC_TAI below one second: where est is within half a period the setpoint gets its goal, and
--- the state is SYNC_PHASE; else the clock is stepped by whole periods, which ends the chain, and the state is SYNC_NSEC
+-- a measurement in SYNC_NSEC, or in SYNC_TAI below one second: if est is within half a period the setpoint gets its
+-- goal, and the state is SYNC_PHASE; else the clock is stepped by whole periods, which ends the chain, and the state is
+-- SYNC_NSEC
 abbrev pub by_period : Core → Measurement → ℤ → Core
 by_period v k est = cond (is_half v est) (aimed v k SyncPhase) (stepped v SyncNsec)
 
@@ -68,8 +69,8 @@ abbrev pub may_track : Core → Measurement → Bool
 may_track v k =
     is_within v.set.track_tau (residual v.phase k) && (is_calm v && nat_le (v.ticks - k.four.tick) v.set.age)
 
--- a measurement in WAIT_STABLE after `stable` calm samples: TRACK where it may be entered; else SYNC_PHASE with a new goal,
--- where est is within half a period; else SYNC_NSEC, where the next measurement may step
+-- a measurement in WAIT_STABLE after `stable` calm samples: TRACK if it may be entered; else SYNC_PHASE with a new
+-- goal, if est is within half a period; else SYNC_NSEC, where the next measurement may step
 abbrev pub settled : Core → Measurement → ℤ → Core
 settled v k est = cond (may_track v k) (aimed v k Track) (cond (is_half v est) (aimed v k SyncPhase) (record v { state = SyncNsec }))
 
@@ -93,7 +94,7 @@ placed v k = placed_in (record v { kept = Some k }) k (est_of v.phase.u k) v.sta
 abbrev pub kept_of : Four → Deltas → ℤ → Measurement
 kept_of f d y = record { four = f; delay = delay_of d y }
 
--- the deltas by which a four is measured: none where no chain stands
+-- the deltas by which a four is measured: none if there is no chain
 abbrev pub deltas_in_chain : Core → Option Deltas
 deltas_in_chain v = option_and_then (λ _. v.signals.link) v.first
 
@@ -101,8 +102,8 @@ deltas_in_chain v = option_and_then (λ _. v.signals.link) v.first
 abbrev pub is_in : ℤ → ℤ → ℤ → Bool
 is_in lo hi x = int_le lo x && int_le x hi
 
--- a measurement with the law's answer y, in tau: ignored without the link's deltas; kept where x is in the law's range, lo to
--- hi in tau; else the chain ends
+-- a measurement with the law's answer y, in tau: ignored without the link's deltas; kept if x is in the law's range, lo
+-- to hi in tau; else the chain ends
 abbrev pub answered : ℤ → ℤ → Core → Four → ℤ → Option Deltas → Core
 answered lo hi v f y None = v
 answered lo hi v f y (Some d) = cond (is_in lo hi (x_of d f)) (placed v (kept_of f d y)) (ended v)
@@ -111,22 +112,22 @@ answered lo hi v f y (Some d) = cond (is_in lo hi (x_of d f)) (placed v (kept_of
 abbrev pub by_measured : ℤ → ℤ → Core → Four → ℤ → Core
 by_measured lo hi v f y = answered lo hi v f y (deltas_in_chain v)
 
--- the periods of a step by whole periods: none where est is within half a period
+-- the periods of a step by whole periods: none if est is within half a period
 abbrev pub step_by_period : Core → ℤ → ℤ
 step_by_period v est = cond (is_half v est) (pos 0) (period_cycles v.set.clock est)
 
--- the periods by which a measurement steps the clock, by the state: SYNC_TAI steps whole seconds, or whole periods where est is
--- below one second; SYNC_NSEC steps whole periods; no other state steps
+-- the periods by which a measurement steps the clock, by the state: SYNC_TAI steps whole seconds, or whole periods if
+-- est is below one second; SYNC_NSEC steps whole periods; no other state steps
 abbrev pub cycles_in : Core → ℤ → ServoState → ℤ
 cycles_in v est SyncTai = cond (is_below_second est) (step_by_period v est) (second_cycles v.set.clock est)
 cycles_in v est SyncNsec = step_by_period v est
 cycles_in v est _ = pos 0
 
--- the periods that a measurement steps, by the link's deltas: 0 without them, and where x is out of the law's range
+-- the periods that a measurement steps, by the link's deltas: 0 without them, or if x is out of the law's range
 abbrev pub answered_cycles : ℤ → ℤ → Core → Four → ℤ → Option Deltas → ℤ
 answered_cycles lo hi v f y None = pos 0
 answered_cycles lo hi v f y (Some d) = cond (is_in lo hi (x_of d f)) (cycles_in v (est_of v.phase.u (kept_of f d y)) v.state) (pos 0)
 
--- the periods by which a measurement steps the clock: 0 for no step, negative where the slave's clock is ahead
+-- the periods by which a measurement steps the clock: 0 for no step, negative if the slave's clock is ahead
 abbrev pub cycles_of : ℤ → ℤ → Core → Four → ℤ → ℤ
 cycles_of lo hi v f y = answered_cycles lo hi v f y (deltas_in_chain v)

@@ -32,15 +32,15 @@ is_far u = nat_le (2 ^ 60) (unsigned_abs u)
 abbrev pub is_within : ℤ → ℤ → Bool
 is_within limit x = int_le (pos (unsigned_abs x)) limit
 
--- est, by the four that stands
+-- est, by the kept four
 abbrev pub est_of : ℤ → Measurement → ℤ
 est_of u k = ((k.four.t2 -ℤ k.four.t1) -ℤ k.delay) +ℤ (u -ℤ k.four.u2)
 
--- the residual r, by the four that stands
+-- the residual r, by the kept four
 abbrev pub residual : PhaseLoop → Measurement → ℤ
 residual l k = est_of l.u k -ℤ e_tau l
 
--- the size of the residual, by the four that stands, is at most the limit, in tau; without a four this is true
+-- the size of the residual, by the kept four, is at most the limit, in tau; without a four this is true
 abbrev pub is_near : ℤ → PhaseLoop → Option Measurement → Bool
 is_near limit l None = true
 is_near limit l (Some k) = is_within limit (residual l k)
@@ -53,12 +53,12 @@ is_calm v = is_within v.set.loop_tau (e_tau v.phase)
 abbrev pub stays_near : Core → Bool
 stays_near v = is_calm v && is_near v.set.track_tau v.phase v.kept
 
--- a chain may start: none stands, the link is on, and the lease is fresh
+-- a chain may start: there is none, the link is on, and the lease is fresh
 abbrev pub may_start : Core → Bool
 may_start v = not (is_some v.first) && (is_some v.signals.link && v.signals.lease)
 
--- the chain after a good sample: it ends where the detector is unlocked, and may start, with this sample as its first, where it
--- is locked
+-- the chain after a good sample: it ends if the detector is unlocked, and may start, with this sample as its first, if
+-- it is locked
 abbrev pub chained : Core → ℕ → Core
 chained v n = cond v.phase.lock.locked (cond (may_start v) (record v { first = Some n }) v) (ended v)
 
@@ -69,7 +69,7 @@ judged_in v WaitStable = record v { calm = cond (is_calm v) (min v.set.stable (v
 judged_in v Track = cond (stays_near v) v (ended v)
 judged_in v _ = v
 
--- what the state that stands once the chain was looked at makes of a good sample
+-- what the state, as it is once the chain was looked at, makes of a good sample
 abbrev pub judged : Core → Core
 judged v = judged_in v v.state
 
@@ -86,8 +86,8 @@ with_tag v tag = record v { phase = taken v.phase tag; good_tick = v.ticks }
 abbrev pub followed : Core → Core
 followed v = record v { phase = controlled (approached v.set.phase_step v.phase) }
 
--- a good sample once its tag was taken: lost where the phase is out of range; else the loop, the chain and the state act on it,
--- in this order
+-- a good sample once its tag was taken: lost if the phase is out of range; else the loop, the chain and the state act
+-- on it, in this order
 abbrev pub good : Core → ℕ → Core
 good v n = cond (is_far v.phase.u) (lost v) (judged (chained (followed v) n))
 
@@ -96,7 +96,7 @@ abbrev pub heard : Core → ℕ → Option ℕ → Core
 heard v n None = v
 heard v n (Some tag) = good (with_tag v tag) n
 
--- the number of a sample that is not ignored is noted, where it is the greatest so far
+-- the number of a sample that is not ignored is noted, if it is the greatest so far
 abbrev pub with_last : Core → ℕ → Core
 with_last v n = record v { last = max v.last n }
 
@@ -104,16 +104,16 @@ with_last v n = record v { last = max v.last n }
 abbrev pub by_sample : Core → ℕ → ℕ → ℕ → Core
 by_sample v n base bits = cond (hears v) (heard (with_last v n) n (good_tag v.last n base bits)) v
 
--- what became of a good sample once its tag was taken: Lost where the phase is out of range, else Followed
+-- what became of a good sample once its tag was taken: Lost if the phase is out of range, else Followed
 abbrev pub good_as : Core → Heard
 good_as v = cond (is_far v.phase.u) Lost Followed
 
--- what became of a sample that is not ignored: Refused where it is glitched or not newer than all before; else it is good
+-- what became of a sample that is not ignored: Refused if it is glitched or not newer than all before; else it is good
 abbrev pub tag_as : Core → Option ℕ → Heard
 tag_as v None = Refused
 tag_as v (Some tag) = good_as (with_tag v tag)
 
--- what became of a sample: Ignored without a carrier and in HOLDOVER; Refused where it is not good; Lost where it is good, but
--- its phase is out of range; else Followed
+-- what became of a sample: Ignored without a carrier and in HOLDOVER; Refused if it is not good; Lost if it is good,
+-- but its phase is out of range; else Followed
 abbrev pub heard_as : Core → ℕ → ℕ → ℕ → Heard
 heard_as v n base bits = cond (hears v) (tag_as v (good_tag v.last n base bits)) Ignored

@@ -25,7 +25,7 @@ pub record ServoOf (F : Type 0) : Type 0 where
 abbrev pub servo_setting_of : {F : Type 0} → ServoSet → LawOf F → ServoSetting
 servo_setting_of set law = record { set = set; lo = law.lo; hi = law.hi }
 
--- the answer beside a measurement is one of the law's, where the law is asked
+-- the answer beside a measurement is one of the law's answers, if the law is asked
 abbrev pub IsAnswer : (ℤ → ℤ → Type 0) → ServoSetting → Core → Four → ℤ → Type 0
 IsAnswer answers x v f y = (d : Deltas) → deltas_in_chain v ≡ Some d → IsTrue (is_in x.lo x.hi (x_of d f)) → answers (x_of d f) y
 
@@ -90,14 +90,14 @@ answer_to x v call = plain_out (pos 0) (news_at x v call) None
 abbrev pub out_of : {F : Type 0} → ServoOf F → Call → ServoOut
 out_of servo call = answer_to (servo_setting_of servo.core.set servo.law) servo.core call
 
--- a measurement with an answer y: y is one of the law's, the new servo is the old one after it and stands for the list
--- with it, and the output is that of its row
+-- a measurement with an answer y: y is one of the law's answers, the new servo is the old one after it and stands for
+-- the list with it, and the output is the one of its row
 pub record AddsMeasured {F : Type 0} (post : F → ℤ → ℤ → Type 0) (old new : ServoOf F) (f : Four) (y : ℤ) (out : ServoOut) : Type 0 where
   pub answer : IsAnswer (post old.law.closure) (servo_setting_of old.core.set old.law) old.core f y
   pub value : new ≡ after_call old (CallMeasured f y)
   pub stands : AddsCall post old new (CallMeasured f y)
   pub out_is : out ≡ out_of old (CallMeasured f y)
 
--- est, where a four stands
+-- est, if there is a four
 abbrev pub est_now : Core → Option ℤ
 est_now v = option_map (est_of v.phase.u) v.kept

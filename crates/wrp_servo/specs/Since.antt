@@ -1,13 +1,13 @@
--- Looking back over a list of calls, the newest at its head: something stands where a call starts it and none after that ends it.
+-- Looking back over a list of calls, newest first: something holds if a call starts it and no later call ends it.
 use Rattle.std.specs.Prelude.{◌≡◌, Bool, true, false, List, [], ◌∷◌, ◌++◌}
 use Rattle.wrp_servo.specs.Call.{Call}
 
--- none of these calls, each after all those before it, ends it
+-- none of these calls, each after all the calls before it, ends it
 abbrev pub NoneEnds : (List Call → Call → Bool) → List Call → List Call → Type 0
 NoneEnds ends [] before = Unit {0}
 NoneEnds ends (call ∷ since) before = (ends (since ++ before) call ≡ false) × NoneEnds ends since before
 
--- the list has a call that starts it, and none after that ends it
+-- the list has a call that starts it, and no later call ends it
 pub record Since (starts ends : List Call → Call → Bool) (calls : List Call) : Type 0 where
   pub since : List Call
   pub start : Call

@@ -32,7 +32,7 @@ ended_in v SyncPhase = record v { state = SyncTai; first = None; kept = None }
 ended_in v WaitStable = record v { state = SyncTai; first = None; kept = None }
 ended_in v _ = record v { first = None; kept = None }
 
--- the chain ends, where one stands
+-- the chain ends, if there is one
 abbrev pub ended : Core → Core
 ended v = cond (is_some v.first) (ended_in v v.state) v
 
@@ -64,7 +64,7 @@ abbrev pub by_carrier : Core → Bool → Core
 by_carrier v true = restarted_outside_holdover (with_carrier v true) v.state
 by_carrier v false = uninit_outside_holdover (ended (carrier_gone v)) (ended (carrier_gone v)).state
 
--- the servo with this word on the link noted: its fixed delays where it is on, None where it is off
+-- the servo with this word on the link noted: its fixed delays if it is on, None if it is off
 abbrev pub with_link : Core → Option Deltas → Core
 with_link v on = record v { signals = record v.signals { link = on } }
 
@@ -83,7 +83,7 @@ by_link v None = uninit_outside_holdover (ended (with_link v None)) (ended (with
 abbrev pub with_lease : Core → Bool → Core
 with_lease v fresh = record v { signals = record v.signals { lease = fresh } }
 
--- the servo after a word on the lease: where it lapsed, the chain ends
+-- the servo after a word on the lease: if it lapsed, the chain ends
 abbrev pub by_lease : Core → Bool → Core
 by_lease v true = with_lease v true
 by_lease v false = ended (with_lease v false)
@@ -99,7 +99,7 @@ holdover_ticked v =
 abbrev pub is_past_gap : Core → Bool
 is_past_gap v = nat_lt v.set.gap (v.ticks - v.good_tick)
 
--- the chain ends where more than `gap` ticks passed since the last good sample
+-- the chain ends if more than `gap` ticks passed since the last good sample
 abbrev pub ended_by_gap : Core → Core
 ended_by_gap v = cond (is_past_gap v) (ended v) v
 
@@ -108,7 +108,7 @@ abbrev pub too_old : ℕ → ℕ → Option Measurement → Bool
 too_old age ticks None = false
 too_old age ticks (Some k) = nat_lt age (ticks - k.four.tick)
 
--- the four that stands is more than `age` ticks old; without a four this is false
+-- the kept four is more than `age` ticks old; without a four this is false
 abbrev pub is_old : Core → Bool
 is_old v = too_old v.set.age v.ticks v.kept
 
@@ -117,7 +117,7 @@ abbrev pub is_track : ServoState → Bool
 is_track Track = true
 is_track _ = false
 
--- in TRACK the chain ends, which enters HOLDOVER, where the four is too old
+-- in TRACK the chain ends, which enters HOLDOVER, if the four is too old
 abbrev pub ended_by_age : Core → Core
 ended_by_age v = cond (is_track v.state && is_old v) (ended v) v
 

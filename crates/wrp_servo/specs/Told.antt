@@ -1,4 +1,4 @@
--- What was told last, and what was counted since, looking back over the list of calls (this project's profile).
+-- What was last given, and what was counted since, looking back over the list of calls (this project's profile).
 use Rattle.std.specs.Prelude.{◌≡◌, ℕ, Bool, true, false, cond, not, is_some, ◌+◌, ◌≤◌, List, [], ◌∷◌, Option, None}
 use Rattle.wrp_base.specs.declared.link.Deltas.{Deltas}
 use Rattle.wrp_servo.specs.Call.{Call, CallSample, CallTick, CallLease, CallLink, CallCarrier, CallReset, ServoSetting, after, run}
@@ -12,7 +12,7 @@ carrier_told (CallCarrier up ∷ calls) = up
 carrier_told (CallReset ∷ calls) = false
 carrier_told (_ ∷ calls) = carrier_told calls
 
--- the deltas of the link, where it is on
+-- the deltas of the link, if it is on
 abbrev pub link_told : List Call → Option Deltas
 link_told [] = None
 link_told (CallLink on ∷ calls) = on
@@ -33,7 +33,7 @@ ticks_told (CallTick ∷ calls) = ticks_told calls + 1
 ticks_told (CallReset ∷ calls) = 0
 ticks_told (_ ∷ calls) = ticks_told calls
 
--- what a servo knows is what it was told last
+-- what a servo knows is what it was last given
 pub record IsTold (v : Core) (calls : List Call) : Type 0 where
   pub carrier : v.signals.carrier ≡ carrier_told calls
   pub link : v.signals.link ≡ link_told calls
@@ -57,12 +57,12 @@ ticks_since_good x (CallSample n base bits ∷ calls) =
     cond (is_some (heard_tag x calls n base bits)) 0 (ticks_since_good x calls)
 ticks_since_good x (_ ∷ calls) = ticks_since_good x calls
 
--- a call tells that the lease is fresh
+-- a call gives a fresh lease
 abbrev pub lease_starts : List Call → Call → Bool
 lease_starts before (CallLease fresh) = fresh
 lease_starts before _ = false
 
--- a call tells that the lease lapsed, or is a reset
+-- a call gives a lapsed lease, or is a reset
 abbrev pub lease_ends : List Call → Call → Bool
 lease_ends before (CallLease fresh) = not fresh
 lease_ends before CallReset = true

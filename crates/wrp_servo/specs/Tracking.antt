@@ -22,7 +22,7 @@ enters_by x v f y (Some d) =
     && (is_in x.lo x.hi (x_of d f)
     && (nat_le v.set.stable v.calm && may_track v (record { four = f; delay = delay_of d y })))
 
--- a call enters TRACK: a measurement can, where a chain stands; no other kind of call does
+-- a call enters TRACK: only a measurement can, and only if there is a chain
 abbrev pub enters : ServoSetting → Core → Call → Bool
 enters x v (CallMeasured f y) = enters_by x v f y (deltas_in_chain v)
 enters x v _ = false

@@ -9,6 +9,6 @@ use Rattle.wrp_servo.specs.Laws.{InTrack}
 pub record IsValid (v : Core) : Type 0 where
   -- its numbers keep their sizes
   pub safe : IsSafe v
-  -- in TRACK a chain and a four stand, and the loop's error and the residual are within their limits
+  -- in TRACK there are a chain and a four, and the loop's error and the residual are within their limits
   pub chain : is_track v.state ≡ true → is_some v.first ≡ true
   pub near : is_track v.state ≡ true → InTrack v

@@ -1,7 +1,7 @@
 //! What a servo is set to, and what it answers.
 use wrp_base::{ChainNews, Clock, Tau};
 
-/// The settings of a servo (this project's profile; the ranges are those of a network file).
+/// The settings of a servo (this project's profile; the ranges are the same as in a network file).
 #[derive(Clone, Copy, Debug, PartialEq, Eq)]
 pub struct ServoSet {
     /// How long HOLDOVER lasts, in ticks: 2 to `10^6`.
@@ -39,9 +39,9 @@ pub struct ServoSet {
 pub struct ServoOut {
     /// The periods by which the clock is to be stepped, held within `2^62` either way; 0 for no step.
     pub cycles: i64,
-    /// The new DAC value, where the loop took a sample.
+    /// The new DAC value, if the loop took a sample.
     pub dac: Option<u16>,
-    /// The unwrapped phase, in tau, where the call brought a good sample.
+    /// The unwrapped phase, in tau, if the call brought a good sample.
     pub unwrapped: Option<i64>,
     /// What became of the chain of good samples.
     pub chain: ChainNews,

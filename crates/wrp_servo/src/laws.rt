@@ -4,28 +4,28 @@ ghost use Rattle.wrp_servo.specs.Holdover.{HoldoverSince};
 ghost use Rattle.wrp_servo.specs.Tags.{PhaseIsSum};
 ghost use Rattle.wrp_servo.specs.Told.{CountsOneTick, ToldLast};
 
-/// TRACK stands exactly where a call entered it and none after that left it.
+/// The state is TRACK if and only if a call entered it and no later call left it.
 pub fn track_since()
     ensures { TrackSince }
 {}
 
-/// A chain stands exactly where a call started it and none after that ended it.
+/// There is a chain if and only if a call started it and no later call ended it.
 pub fn chain_since()
     ensures { ChainSince }
 {}
 
-/// The lease is fresh exactly where a call told so, and none after that told its lapse or was a reset.
+/// The lease is fresh if and only if a call gave a fresh lease, and no later call gave a lapsed one or was a reset.
 pub fn lease_since()
     ensures { LeaseSince }
 {}
 
-/// HOLDOVER stands exactly where a call other than a reset left TRACK, and since then there were no
-/// reset and fewer than `holdover` ticks.
+/// The state is HOLDOVER if and only if a call other than a reset left TRACK, and since then there were
+/// no reset and fewer than `holdover` ticks.
 pub fn holdover_since()
     ensures { HoldoverSince }
 {}
 
-/// In TRACK a chain and a four stand, and the loop's error and the residual are within their limits.
+/// In TRACK there are a chain and a four, and the loop's error and the residual are within their limits.
 pub fn track_is_near()
     ensures chain { TrackHasChain }
     ensures near { TrackIsNear }
@@ -37,7 +37,7 @@ pub fn chain_is_held()
     ensures { ChainIsHeld }
 {}
 
-/// With a chain there are a carrier, a link that is on and a fresh lease, as they were told last.
+/// With a chain there are a carrier, a link that is on and a fresh lease, as last given.
 pub fn chain_has_signals()
     ensures { ChainHasSignals }
 {}
@@ -59,12 +59,12 @@ pub fn no_step_in_track()
     ensures { NoStepInTrack }
 {}
 
-/// Carrier, link, lease and ticks are what the list of calls told last.
+/// The carrier, the link, the lease and the ticks are the ones that the list of calls last gave.
 pub fn told_last()
     ensures { ToldLast }
 {}
 
-/// A call counts one tick at the most.
+/// A call counts at most one tick.
 pub fn counts_one_tick()
     ensures { CountsOneTick }
 {}

@@ -1,4 +1,4 @@
-//! What a servo holds, and what the calls do to it that bring no sample and no measurement.
+//! What a servo holds, and what the calls that bring no sample and no measurement do to it.
 ghost use Rattle.std.specs.Prelude.{◌≡◌, ℕ, pos, ◌^◌, ◌<◌, ◌≤◌, ◌+◌, unsigned_abs};
 ghost use Rattle.wrp_servo.specs.Table.{ended, by_reset, by_carrier, by_link, by_lease, by_tick, new_core};
 
@@ -6,18 +6,18 @@ use crate::ServoSet;
 use crate::phase_loop::PhaseLoop;
 use wrp_base::{Deltas, Four, ServoState, Tau};
 
-/// What was told last: carrier, link and lease.
+/// The carrier, the link and the lease, as last given.
 #[derive(Clone, Copy, Debug, PartialEq, Eq)]
 pub struct Signals {
     /// Whether there is a carrier.
     pub carrier: bool,
-    /// The fixed delays of the link, where it is on.
+    /// The fixed delays of the link, if it is on.
     pub link: Option<Deltas>,
     /// Whether the lease is fresh.
     pub lease: bool,
 }
 
-/// The four that stands, with the delay down that the law gave for it.
+/// The kept four, with the delay down that the law gave for it.
 #[derive(Clone, Copy, Debug, PartialEq, Eq)]
 pub struct Measurement {
     /// The four.
@@ -33,11 +33,11 @@ pub struct Core {
     pub set: ServoSet,
     /// Its state.
     pub state: ServoState,
-    /// What was told last.
+    /// The carrier, the link and the lease, as last given.
     pub signals: Signals,
-    /// The number of the chain's first sample, where a chain stands.
+    /// The number of the chain's first sample, if there is a chain.
     pub first: Option<u32>,
-    /// The four that stands.
+    /// The kept four.
     pub kept: Option<Measurement>,
     /// The greatest number of a sample so far.
     pub last: u32,
@@ -132,8 +132,8 @@ impl Core {
         }
     }
 
-    /// In HOLDOVER a tick is only counted. Elsewhere the chain ends past `gap`, and TRACK is left where
-    /// the four is too old.
+    /// In HOLDOVER a tick is only counted. Elsewhere the chain ends past `gap`, and TRACK is left if the
+    /// four is too old.
     pub fn tick(&mut self)
         requires { self.old.ticks + 1 < 2 ^ 32 }
         ensures { self.new ≡ by_tick self.old }

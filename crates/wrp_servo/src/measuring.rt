@@ -58,7 +58,7 @@ pub fn delay_by(deltas: &Deltas, answer: i64) -> Tau
 }
 
 // The step of whole seconds, counted in periods and held within `2^62`: the whole seconds of est,
-// rounded towards zero, with the opposite sign. It is negative where the slave's clock is ahead.
+// rounded towards zero, with the opposite sign. It is negative if the slave's clock is ahead.
 fn seconds(clock: Clock, est: Tau) -> i64
     requires { unsigned_abs est ≤ 2 ^ 110 }
     ensures { result ≡ second_cycles clock est }
@@ -77,7 +77,7 @@ fn whole_seconds(est: Tau) -> i128
 }
 
 // The step of whole periods, held within `2^62`: est in periods, to the nearest, with the opposite sign.
-// It is negative where the slave's clock is ahead.
+// It is negative if the slave's clock is ahead.
 fn periods(clock: Clock, est: Tau) -> i64
     requires { unsigned_abs est ≤ 2 ^ 110 }
     ensures { result ≡ period_cycles clock est }
@@ -117,7 +117,7 @@ fn is_below_second(est: Tau) -> bool
 }
 
 impl Core {
-    /// The fixed delays of the link, in tau, by which a four is measured. None where there is no chain,
+    /// The fixed delays of the link, in tau, by which a four is measured. None if there is no chain,
     /// or the link is off. The servo stays as it is.
     pub fn deltas_in_chain(&self) -> Option<Deltas>
         ensures { result ≡ deltas_in_chain self.now }
@@ -128,7 +128,7 @@ impl Core {
         }
     }
 
-    /// Keeps a four, and answers the commanded periods.
+    /// Keeps a four, and returns the commanded periods.
     pub fn place(&mut self, kept: Measurement) -> i64
         requires u { unsigned_abs self.old.phase.u < 2 ^ 61 }
         requires room { HasRoom self.old }

@@ -23,11 +23,11 @@ pub enum Heard {
 }
 
 impl Core {
-    /// Takes a sample, and answers what became of it. Ignored, without a carrier and in HOLDOVER: nothing
-    /// changes. Refused, where it is glitched or not newer than all before: its number is noted, where it
-    /// is the greatest so far, and nothing else changes. Lost, where it is good and its phase is `2^60`
-    /// tau or more either way: the chain ends, and the loop restarts at the next good sample. Else
-    /// Followed: the loop, the chain and the state have acted on it.
+    /// Takes a sample, and returns what became of it. Ignored, without a carrier and in HOLDOVER: nothing
+    /// changes. Refused, if it is glitched or not newer than all before: its number is noted, if it is
+    /// the greatest so far, and nothing else changes. Lost, if it is good and its phase is `2^60` tau or
+    /// more either way: the chain ends, and the loop restarts at the next good sample. Else Followed: the
+    /// loop, the chain and the state have acted on it.
     pub fn sample(&mut self, n: u32, base: u16, bits: u64) -> Heard
         requires base { base < 16384 }
         requires sized { IsSized self.old }

@@ -1,4 +1,4 @@
-//! The servo of a slave port: its calls, what they answer, and what it tells of itself.
+//! The servo of a slave port: its calls, what they answer, and what it reports of itself.
 ghost use Rattle.std.specs.Prelude.{◌≡◌, ℕ, ℤ, pos, ◌^◌, ◌<◌, ◌≤◌, ◌+◌, ◌≤ℤ◌, unsigned_abs, List, [], ◌∷◌, IfSome, None, Some, cond, true, IsTrue, ◌↔◌};
 ghost use Rattle.std.specs.Option.{option_map};
 ghost use Rattle.wrp_law.specs.Law.{LawOf, KeepsFact};
@@ -19,11 +19,11 @@ use std::marker::Model;
 use wrp_base::{ChainNews, Deltas, Four, ServoState, Tau};
 use wrp_law::DelayLaw;
 
-/// The servo of a slave port (this project's profile): it follows the phase of the recovered clock by
+/// The servo of a slave port (this project's profile). It follows the phase of the recovered clock by
 /// samples, measures its offset by fours of stamps and the delay law of its link, steps the clock, and
-/// tells a DAC value. What it holds after a list of calls is a function of the list and of the law's
+/// outputs a DAC value. What it holds after a list of calls is a function of the list and of the law's
 /// answers in it: `StandsFor` says so, and every call adds itself to each list that the servo stands
-/// for. Each call answers a `ServoOut`.
+/// for. Each call returns a `ServoOut`.
 #[derive(Drop)]
 pub struct Servo<F> {
     core: Machine,
@@ -54,9 +54,9 @@ impl<F: Fn(i64) -> i64> Servo<F> {
     }
 
     /// A phase sample with number `n`, base 0 to 16383 and 64 beat bits. It is ignored without a carrier
-    /// and in HOLDOVER, and refused (15) where it is glitched or not newer than an earlier one. Any other
+    /// and in HOLDOVER, and refused (15) if it is glitched or not newer than an earlier one. Any other
     /// is good: it moves the phase, the setpoint and the loop, and may start or end the chain.
-    /// An ignored one changes nothing. Of a refused one the number is noted, where it is the greatest so
+    /// An ignored sample changes nothing. The number of a refused one is noted, if it is the greatest so
     /// far, and nothing else changes. Both have neither `dac` nor `unwrapped`. A good one whose phase is
     /// `2^60` tau or more either way has no `dac`: the chain ends, and the loop restarts.
     pub fn sample(&mut self, n: u32, base: u16, bits: u64) -> ServoOut
@@ -101,10 +101,10 @@ impl<F: Fn(i64) -> i64> Servo<F> {
     }
 
     /// A four of stamps, each time strictly between `-2^105` and `2^105` tau. Without a chain it is
-    /// ignored. Where the delay both ways is out of the law's range it is refused (14) and the chain ends.
-    /// Else it stands, and the state makes of it a step, a goal of the setpoint, or nothing.
-    /// An ignored one changes nothing. After a refused one there are no chain and no four, TRACK went to
-    /// HOLDOVER, and SYNC_NSEC, SYNC_PHASE and WAIT_STABLE went to SYNC_TAI.
+    /// ignored. If the delay both ways is out of the law's range, it is refused (14) and the chain ends.
+    /// Otherwise it is kept, and the state makes of it a step, a goal of the setpoint, or nothing.
+    /// An ignored four changes nothing. After a refused one there are no chain and no four; TRACK has gone
+    /// to HOLDOVER, and SYNC_NSEC, SYNC_PHASE and WAIT_STABLE have gone to SYNC_TAI.
     pub fn measured(&mut self, four: &Four) -> ServoOut
         requires law { KeepsFact F.pre F.post self.old.law }
         requires four { FitsTimes four.now }
@@ -115,7 +115,7 @@ impl<F: Fn(i64) -> i64> Servo<F> {
         out
     }
 
-    // A measurement, with the law's answer, which is 0 where the law is not asked.
+    // A measurement, with the law's answer, which is 0 if the law is not asked.
     fn ask(&mut self, four: &Four) -> (ServoOut, i64)
         requires law { KeepsFact F.pre F.post self.old.law }
         requires four { FitsTimes four.now }
@@ -164,7 +164,7 @@ impl<F: Fn(i64) -> i64> Servo<F> {
         )
     }
 
-    // x, where it is in the law's range.
+    // x, if it is in the law's range.
     fn x_in(&self, x: Tau) -> Option<i64>
         ensures some { IfSome result (λ z. (z ≡ x) × (self.now.law.lo ≤ℤ z) × (z ≤ℤ self.now.law.hi)
             × (is_in self.now.law.lo self.now.law.hi x ≡ true)) }
@@ -254,7 +254,7 @@ impl<F: Fn(i64) -> i64> Servo<F> {
         self.core.dac()
     }
 
-    /// Whether TRACK stands: looking back over the calls, one entered it, and none after that left it.
+    /// Whether the state is TRACK: looking back over the calls, one entered it, and no later call left it.
     pub fn tracking(&self) -> bool
         ensures state { result ≡ is_track self.now.core.state }
         ensures since { (x : ServoSetting) (calls : List Call) → StandsFor F.post x self.now calls
@@ -271,7 +271,7 @@ impl<F: Fn(i64) -> i64> Servo<F> {
     }
 
     /// The offset of the slave's clock, in tau, by the four that is kept and the phase since; None
-    /// where there is no four. The servo stays as it is.
+    /// if there is no four. The servo stays as it is.
     pub fn est(&self) -> Option<Tau>
         ensures { result ≡ est_now self.now.core }
     {

@@ -49,7 +49,7 @@ impl Machine {
         self.core.reset();
     }
 
-    /// Takes a sample, and answers what became of it; `Core::sample` says what each case leaves.
+    /// Takes a sample, and returns what became of it; `Core::sample` says what each case leaves.
     pub fn sample(&mut self, n: u32, base: u16, bits: u64) -> Heard
         requires { base < 16384 }
         ensures state { self.new ≡ by_sample self.old n base bits }
@@ -87,7 +87,7 @@ impl Machine {
         self.core.lease(fresh);
     }
 
-    /// The fixed delays of the link, in tau, by which a four is measured. None where there is no chain,
+    /// The fixed delays of the link, in tau, by which a four is measured. None if there is no chain,
     /// or the link is off. The machine stays as it is.
     pub fn deltas_in_chain(&self) -> Option<Deltas>
         ensures { result ≡ deltas_in_chain self.now }
@@ -102,7 +102,7 @@ impl Machine {
         self.core.end();
     }
 
-    /// Keeps a four with the law's answer, and answers the commanded periods.
+    /// Keeps a four with the law's answer, and returns the commanded periods.
     pub fn take_four(&mut self, four: &Four, deltas: &Deltas, answer: i64) -> i64
         requires four { FitsTimes four.now }
         requires deltas_in_chain { deltas_in_chain self.old ≡ Some deltas.now }
@@ -113,7 +113,7 @@ impl Machine {
         self.core.place(kept_by(four, deltas, answer))
     }
 
-    /// The number of the chain's first sample; None where there is no chain.
+    /// The number of the chain's first sample; None if there is no chain.
     pub fn first(&self) -> Option<u32>
         ensures { result ≡ self.now.first }
     {
@@ -149,7 +149,7 @@ impl Machine {
     }
 
     /// The offset of the slave's clock, in tau, by the four that is kept and the phase since; None
-    /// where there is no four. The machine stays as it is.
+    /// if there is no four. The machine stays as it is.
     pub fn est(&self) -> Option<Tau>
         ensures { result ≡ est_now self.now }
     {

@@ -91,8 +91,8 @@ fn socket<R: Net>(rt: &R) -> io::Result<UdpSocket> {
     UdpSocket::bind(rt, SocketAddrV4::new(Ipv4Addr::LOCALHOST, 0))
 }
 
-// What the lower end of the first link sends is refused. The system says so at its next `recv`: when the first frame of the
-// upper end arrives. What was written before stands, and the audit of these events prints it again.
+// What the lower end of the first link sends is refused. The system says so at its next `recv`: when the first frame of
+// the upper end arrives. What was written before stays, and the audit of these events prints it again.
 #[test]
 fn refused_datagrams_end_a_loop(rt: HostRuntime) -> Result<(), Fail> {
     let alloc = rt.alloc();

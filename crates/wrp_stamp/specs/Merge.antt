@@ -10,7 +10,7 @@ use Rattle.wrp_base.specs.Clock.{period_of, step_of, steps_of_period}
 abbrev pub quarter_of : Clock → ℕ
 quarter_of clock = period_of clock / 4
 
--- the place in the period, in tau, that a tag tells: it is counted from the transition, where the counters change over
+-- the place in the period, in tau, that a tag shows: it is counted from the transition, where the counters change over
 abbrev pub place_of : Clock → ℕ → ℕ → ℕ
 place_of clock tag transition = step_of clock * ((tag + steps_of_period - transition) % steps_of_period)
 
@@ -20,7 +20,7 @@ periods_at clock raw place =
     if nat_lt place (quarter_of clock) then raw.falling
     else (if nat_lt place (3 * quarter_of clock) then raw.rising else raw.falling - 1)
 
--- the reading that the raw stamp tells, in tau
+-- the reading that the raw stamp shows, in tau
 abbrev pub merged : Clock → Raw → ℕ → ℕ
 merged clock raw transition =
     let place = place_of clock raw.tag transition in

@@ -5,7 +5,7 @@ ghost use Rattle.wrp_stamp.specs.Merge.{transition_of};
 
 use wrp_base::Module;
 
-/// The transition of a port's module, in detector steps; 0 where the module is not listed.
+/// The transition of a port's module, in detector steps; 0 if the module is not listed.
 pub fn transition_of(entry: Option<Module>) -> u16
     ensures value { result ≡ transition_of entry }
     ensures below { IfSome entry (λ m. m.transition < steps_of_period) → result < steps_of_period }

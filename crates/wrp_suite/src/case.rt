@@ -1,4 +1,4 @@
-//! A case: a call, and what is due.
+//! A case: a call, and what is expected.
 use std::alloc::{AllocError, Global};
 
 /// A number that a case sets, by its name.
@@ -13,7 +13,7 @@ pub struct Setting {
 /// A case.
 #[derive(Drop)]
 pub struct Case {
-    /// The word of the call that it makes; `text` is no call: its input is a text for the cases behind it.
+    /// The word of the call that it makes; `text` is no call: its input is a text for the cases after it.
     pub kind: String,
     /// What it shows.
     pub name: String,
@@ -21,15 +21,15 @@ pub struct Case {
     pub words: Vec<String>,
     /// What goes in.
     pub input: Vec<u8>,
-    /// A part of the input that is replaced the first time it stands there; none where it is empty.
+    /// A part of the input that is replaced where it first appears; none if it is empty.
     pub cut: String,
-    /// What stands for it.
+    /// What replaces it.
     pub put: String,
     /// The numbers that it sets.
     pub settings: Vec<Setting>,
-    /// The number that is due.
+    /// The expected number.
     pub status: u8,
-    /// The octets that are due.
+    /// The expected octets.
     pub due: Vec<u8>,
 }
 

@@ -13,11 +13,11 @@ pub enum Fault {
     Number,
     /// Octets are no hex.
     Hex,
-    /// No text of this name stands before.
+    /// There is no earlier text of this name.
     NoText,
-    /// A text of this name stands before.
+    /// There is an earlier text of this name.
     Twice,
-    /// The part that is to be replaced does not stand in the input.
+    /// The part that is to be replaced does not appear in the input.
     NoPart,
     /// The words or the input of the case are none that its call takes.
     Input,

@@ -1,6 +1,6 @@
-//! Test suites as data: files of cases, each of which makes one call of a program of cases, and says what is due.
-//! A program of cases names the calls that it can make (`Kinds`) and hands its words to `run_files`. docs/CASES.md
-//! tells the format.
+//! Test suites as data: files of cases, each of which makes one call of a program of cases, and says what is
+//! expected. A program of cases names the calls that it can make (`Kinds`) and hands its words to `run_files`.
+//! docs/CASES.md gives the format.
 #![tactic(auto)]
 
 mod answer;

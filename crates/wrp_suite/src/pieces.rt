@@ -1,7 +1,7 @@
-//! The octets that the lines of a case file stand for. A line is `< LINE`, a line of the input, or `> LINE`,
-//! a line that is due; and behind the first character may stand how it is meant: `-` for a line without its
-//! end, `x` for octets as hex, `@` for a text by its name, a number for a line that comes so many times, and
-//! `-` and a number for a text without line ends that comes so many times.
+//! The octets that the lines of a case file mean. A line is `< LINE`, a line of the input, or `> LINE`, an
+//! expected line; and after the first character it may say how it is meant: `-` for a line without its end,
+//! `x` for octets as hex, `@` for a text by its name, a number for a line that comes so many times, and `-`
+//! and a number for a text without line ends that comes so many times.
 use crate::fault::Fault;
 use std::alloc::{AllocError, Global};
 
@@ -33,7 +33,7 @@ fn push_times(out: &mut Vec<u8>, times: &str, line: &str, ending: &str) -> Resul
     Ok(())
 }
 
-// Appends octets that stand as hex.
+// Appends octets that are given as hex.
 fn push_hex(alloc: Global, out: &mut Vec<u8>, digits: &str) -> Result<(), Fault> {
     match hex::decode(alloc, digits) {
         Ok(octets) => Ok(out.extend_from_slice(&octets)?),
@@ -60,7 +60,7 @@ fn push_text(out: &mut Vec<u8>, texts: &[Text], name: &str) -> Result<(), Fault>
     }
 }
 
-/// Appends what a line stands for.
+/// Appends what a line means.
 pub fn push_piece(
     alloc: Global,
     out: &mut Vec<u8>,
@@ -80,7 +80,7 @@ pub fn push_piece(
     }
 }
 
-/// Appends a line to a part that is replaced, or to what stands for it: a line end stands between two.
+/// Appends a line to a part that is replaced, or to its replacement: a line end comes between two.
 pub fn push_part(part: &mut String, line: &str) -> Result<(), AllocError> {
     if !part.is_empty() {
         part.push('\n')?;
@@ -88,7 +88,7 @@ pub fn push_part(part: &mut String, line: &str) -> Result<(), AllocError> {
     part.push_str(line)
 }
 
-/// An input with a part of it replaced the first time it stands there.
+/// An input with a part of it replaced where it first appears.
 pub fn replaced(alloc: Global, input: &[u8], part: &str, other: &str) -> Result<Vec<u8>, Fault> {
     let Ok(text) = str::from_utf8(input) else {
         return Err(Fault::NoPart);

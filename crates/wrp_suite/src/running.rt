@@ -24,7 +24,7 @@ struct Run {
     report: String,
 }
 
-// Whether the answer of a case is what is due; a line of the report says how it differs.
+// Whether the answer of a case is what is expected; a line of the report says how it differs.
 fn passes<K: Kinds>(
     alloc: Global,
     report: &mut String,
@@ -105,7 +105,7 @@ impl Run {
     }
 }
 
-// Runs the cases of one file, and tells of each that differs.
+// Runs the cases of one file, and reports each that differs.
 fn run_file<K: Kinds, R: AllocGlobal + Eprint + Files>(
     rt: &R,
     run: &mut Run,
@@ -119,8 +119,8 @@ fn run_file<K: Kinds, R: AllocGlobal + Eprint + Files>(
     Ok(())
 }
 
-/// Runs the cases of the files that the words after the program's name name, in their order. It tells of each that
-/// differs on standard error, prints `N passed, M failed`, and answers whether some passed and none failed.
+/// Runs the cases of the files that the words after the program's name name, in their order. It reports each that
+/// differs on standard error, prints `N passed, M failed`, and returns whether some passed and none failed.
 pub fn run_files<K: Kinds, R: AllocGlobal + Env + Eprint + Files + Print>(
     rt: &R,
 ) -> io::Result<bool> {

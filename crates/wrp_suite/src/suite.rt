@@ -1,16 +1,16 @@
 //! Case files, line by line. A line of one is empty, or a comment that begins with `#`, or begins with a word:
 //!
-//!     text NAME       a text for the cases behind it, which is its input
+//!     text NAME       a text for the cases after it, which is its input
 //!     KIND NAME       a case on the call of this kind
 //!     words A B ..    its words
 //!     word A          one more word, which may have blanks
 //!     < LINE          a line of its input (`pieces` has the other forms)
-//!     - PART          a part of its input, the first time it stands there, which is replaced by
+//!     - PART          a part of its input, the first occurrence of which is replaced by
 //!     + OTHER         this
 //!     room N          a number that it sets: `room`, `source`, `sink`, `gives`, `takes`, `left`, `calls` or `link_call`
-//!     status N        the number that is due, 0 where it is left out
-//!     > LINE          a line that is due
-//!     end N           the end of the file, behind so many cases
+//!     status N        the expected number, 0 if it is left out
+//!     > LINE          an expected line
+//!     end N           the end of the file, after so many cases
 use crate::case::{Case, Setting};
 use crate::fault::Fault;
 use crate::pieces::{Text, push_part, push_piece, replaced, text_named};
@@ -27,7 +27,7 @@ pub struct Suite {
     closed: bool,
 }
 
-// Puts a part of the input in place of another, where a case says so.
+// Puts a part of the input in place of another, if a case says so.
 fn mend(alloc: Global, case: &mut Case) -> Result<(), Fault> {
     if !case.cut.is_empty() {
         case.input = replaced(alloc, &case.input, case.cut.as_str(), case.put.as_str())?;
@@ -55,7 +55,7 @@ fn push_words(alloc: Global, words: &mut Vec<String>, line: &str) -> Result<(), 
     Ok(())
 }
 
-// Appends what a line gives to the input of a case, or to what is due. Answers whether it is such a line.
+// Appends what a line gives to the input of a case, or to what is expected. Returns whether it is such a line.
 fn push_octets(
     alloc: Global,
     case: &mut Case,
@@ -83,7 +83,7 @@ fn set(alloc: Global, case: &mut Case, name: &str, text: &str) -> Result<(), Fau
     Ok(())
 }
 
-// Takes a line of a case. Answers whether it is one.
+// Takes a line of a case. Returns whether it is one.
 fn take_part(
     alloc: Global,
     case: &mut Case,
@@ -121,7 +121,7 @@ impl Suite {
         self.closed = false;
     }
 
-    /// Whether a file is at its end: its closing count has come, is right, and nothing stands behind it.
+    /// Whether a file is at its end: its closing count has come, is right, and nothing follows it.
     pub fn is_closed(&self) -> bool {
         self.closed
     }
@@ -160,13 +160,13 @@ impl Suite {
         Ok(Some(case))
     }
 
-    // Takes the closing count: the file is at its end where so many cases have ended.
+    // Takes the closing count: the file is at its end if so many cases have ended.
     fn close(&mut self, count: &str) {
         self.closed = count.parse::<u32>().ok() == Some(self.ended);
     }
 
-    /// Takes a line of a file. It gives the case that ends with it. A word that begins no line of a case begins a case; a
-    /// line of a case where none has begun begins one too, of which no call is known.
+    /// Takes a line of a file. It gives the case that ends with it. A word that begins no line of a case begins a case;
+    /// a line of a case when none has begun begins one too, of which no call is known.
     pub fn take(&mut self, alloc: Global, line: &str) -> Result<Option<Case>, Fault> {
         if line.is_empty() || line.starts_with('#') {
             return Ok(None);

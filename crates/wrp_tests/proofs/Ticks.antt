@@ -1,4 +1,4 @@
--- A call of a servo brings one tick at the most.
+-- A call of a servo brings at most one tick.
 use Rattle.std.proofs.Common.{◌≡◌, ◌+◌, ◌≤◌, sym, subst}
 use Rattle.wrp_servo.specs.Call.{Call}
 use Rattle.wrp_servo.specs.Servo.{ServoOf, after_call, servo_setting_of}

@@ -42,7 +42,7 @@ const LISTS: [&[Call]; 3] = [
         ReqSent(4, 2400, 1, 8),
         Resp(4, 2500),
     ],
-    // a clear, and a start anew
+    // a clear, and a new start
     &[
         Start(1),
         Sample(1, 10),
@@ -61,7 +61,7 @@ const LISTS: [&[Call]; 3] = [
     ],
 ];
 
-// Makes one call. Answers whether its piece was kept.
+// Makes one call. Returns whether its piece was kept.
 fn make(exchange: &mut Exchange, call: Call) -> bool {
     match call {
         Start(first) => exchange.start(first),

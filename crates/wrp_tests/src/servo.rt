@@ -1,5 +1,5 @@
-//! Lists of calls that numbers draw: whether TRACK stands, beside a plain program that looks back over all calls. And a
-//! servo whose law has a short range.
+//! Lists of calls that numbers draw: whether the state is TRACK, beside a plain program that looks back over all calls.
+//! And a servo whose law has a short range.
 ghost use Rattle.std.specs.Prelude.{◌≡◌, ◌≤◌, ◌+◌, ◌<◌, ◌^◌, unsigned_abs};
 ghost use Rattle.wrp_law.specs.Law.{KeepsFact};
 ghost use Rattle.wrp_servo.specs.Sizes.{FitsTimes};
@@ -96,8 +96,8 @@ fn call<F: Fn(i64) -> i64>(servo: &mut Servo<F>, call: Call) -> ServoOut
     }
 }
 
-// The servo after a list of calls, beside the plain program at every eighth call. Answers how often
-// TRACK stood there.
+// The servo after a list of calls, beside the plain program at every eighth call. Returns how often the
+// state was TRACK there.
 fn compares<F: Fn(i64) -> i64>(
     rt: &impl Abort,
     servo: &mut Servo<F>,

@@ -25,7 +25,7 @@ fn local() -> SocketAddrV4 {
     SocketAddrV4::new(Ipv4Addr::LOCALHOST, 0)
 }
 
-// How often a test asks for what the system may take a while to bring.
+// How often a test asks for what the system may take a while to deliver.
 const PATIENCE: u32 = 1_000_000;
 
 // The first datagram that comes at an end.
@@ -62,7 +62,7 @@ fn odd_end_has_its_other_end(rt: HostRuntime) -> Result<(), Fail> {
     Ok(())
 }
 
-// Whether a start over a system without sockets is a fault, and not want of memory.
+// Whether a start over a system without sockets is a fault, and not a lack of memory.
 fn is_start_fault(alloc: Global, cause: io::ErrorKind) -> Option<bool> {
     match UdpLink::new(&NoNet(cause), alloc).start(2) {
         Err(StartFault::Failed) => Some(true),

@@ -1,6 +1,6 @@
-//! Cases on `Calib`: the input is a line `errors E D EP`, and then the runs, each `ref`, `straight` or `swapped` with T1 to T4 and
-//! SKEW. Due are the intervals of p, q, x, y and kappa, a line each with both ends. Otherwise the number is 1, 2 or 3, and the line
-//! `missing KIND`, `conflict NAME LO HI` or `short NAME LO`.
+//! Cases on `Calib`: the input is a line `errors E D EP`, and then the runs, each `ref`, `straight` or `swapped` with
+//! T1 to T4 and SKEW. The intervals of p, q, x, y and kappa are expected, a line each with both ends. Otherwise the
+//! number is 1, 2 or 3, and the line `missing KIND`, `conflict NAME LO HI` or `short NAME LO`.
 ghost use Rattle.std.specs.Prelude.{◌≤◌, ◌^◌};
 
 use crate::machines::{Machine, take_all};
@@ -48,7 +48,7 @@ fn numbers_of(words: [&str; 5]) -> Result<[i64; 5], Fault> {
     ])
 }
 
-// Adds the run that words tell.
+// Adds the run that words give.
 fn add(calib: &mut Calib, words: &[&str]) -> Result<(), Fault> {
     let [kind, t1, t2, t3, t4, skew] = *words else {
         return Err(Fault::Input);
@@ -62,7 +62,7 @@ fn add(calib: &mut Calib, words: &[&str]) -> Result<(), Fault> {
 }
 
 impl Machine for Calib {
-    // Adds a run. Nothing is told of it.
+    // Adds a run. Nothing is printed of it.
     fn take(&mut self, _text: &mut String, words: &[&str]) -> Result<(), Fault> {
         add(self, words)
     }
@@ -129,7 +129,7 @@ fn number_of_fault(fault: CalibFault) -> u8 {
     }
 }
 
-// Appends what a calibration answers, and answers its number.
+// Appends what a calibration answers, and returns its number.
 fn tell(text: &mut String, told: Result<CalibOut, CalibFault>) -> Result<u8, AllocError> {
     match told {
         Ok(out) => tell_spans(text, &out).map(|()| 0),

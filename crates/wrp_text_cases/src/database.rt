@@ -1,14 +1,15 @@
-//! Cases on the calibration database: the input is a calibration text (`database`, for `CalDb::read`), or a text with other keys
-//! beside it (`database_in`, for `CalDb::from_table`). Where it is accepted, a line is due for each word of the case:
+//! Cases on the calibration database: the input is a calibration text (`database`, for `CalDb::read`), or a text with
+//! other keys beside it (`database_in`, for `CalDb::from_table`). If it is accepted, a line is expected for each word
+//! of the case:
 //!
 //!     module.NAME              the numbers of a module for any pair of wavelengths
-//!     module.NAME:TX_NM:RX_NM  those for a pair
+//!     module.NAME:TX_NM:RX_NM  the numbers for a pair
 //!     fibre.NAME               the asymmetry of a fibre, and its error
 //!     table.NAME               the error of its stored law, and the points
 //!     modules, fibres          the names in the order of the text
 //!
-//! `none` stands where nothing is found. The last line says whether the database of the text that `CalDb::text` makes of it tells
-//! the same. Otherwise the code of the fault is due, and a line with its place.
+//! `none` is printed if nothing is found. The last line says whether the database of the text that `CalDb::text` makes
+//! of it gives the same. If it is refused, the code of the fault is expected, and a line with its place.
 use crate::modules::push_module;
 use crate::refusal::answer_of;
 use crate::telling::{push_name, push_none, push_points};
@@ -106,14 +107,14 @@ fn tells(alloc: Global, db: &CalDb, words: &[String], told: &str) -> Result<bool
     Ok(text.as_str() == told)
 }
 
-// Whether the database that the text of another gives tells these lines.
+// Whether the database that the text of another gives has these lines.
 fn reads_back(alloc: Global, db: &CalDb, words: &[String], told: &str) -> Result<bool, ConfFault> {
     let written = db.text(alloc).map_err(ConfFault::Memory)?;
     let again = CalDb::read(alloc, &written)?;
     tells(alloc, &again, words, told).map_err(ConfFault::Memory)
 }
 
-// What is told of a database that was read, and of the one that its own text gives.
+// What is printed of a database that was read, and of the one that its own text gives.
 fn answer_of_database(alloc: Global, db: &CalDb, words: &[String]) -> Result<Answer, Fault> {
     let mut text = String::new(alloc);
     tell_all(&mut text, db, words)?;
@@ -126,7 +127,7 @@ fn answer_of_database(alloc: Global, db: &CalDb, words: &[String]) -> Result<Ans
     Ok(Answer::of(0, text))
 }
 
-// What is told of a database, or of the fault of its text.
+// What is printed of a database, or of the fault of its text.
 fn answer_to(
     alloc: Global,
     read: Result<CalDb, ConfFault>,

@@ -1,11 +1,11 @@
-//! Cases on the L1_SYNC message: the input is the value of a TLV, whose octets may be any. Due is a line `says REQ IS` (`l1_of`),
-//! and a line `tlv HEX` with the octets of its TLV (`put_l1`); or `none` where it says nothing.
+//! Cases on the L1_SYNC message: the input is the value of a TLV, whose octets may be any. A line `says REQ IS`
+//! (`l1_of`) and a line `tlv HEX` with the octets of its TLV (`put_l1`) are expected; or `none` if it says nothing.
 use std::alloc::{AllocError, Global};
 use wrp_base::Frame;
 use wrp_l1sync::{L1Msg, l1_of, put_l1};
 use wrp_suite::{Answer, Case, Fault};
 
-// What is told of a message: what it says, and its TLV.
+// What is printed of a message: what it says, and its TLV.
 fn told_of(alloc: Global, message: &L1Msg) -> Result<String, AllocError> {
     let mut out = Frame::new();
     put_l1(message, &mut out);

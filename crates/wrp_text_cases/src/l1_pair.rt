@@ -1,7 +1,8 @@
-//! Cases on `L1Pair`: the input is a line `timing TIMEOUT INTERVAL DMAX LIFE`, and then a line an event: `pass DT`, `tick END`,
-//! `enable END`, `disable END`, `own END REQ IS` or `deliver END K`, where END is `a` or `b`. A line is due for each: what the end
-//! answers, as of an `L1Port` but the state, or `broken PREMISE SHOWN BOUND` and then `text` with the error's own text. At the end
-//! come `a STATE ticks N`, the same of `b`, and `last K`, the number of the newest message.
+//! Cases on `L1Pair`: the input is a line `timing TIMEOUT INTERVAL DMAX LIFE`, and then a line for each event:
+//! `pass DT`, `tick END`, `enable END`, `disable END`, `own END REQ IS` or `deliver END K`, where END is `a` or `b`. A
+//! line is expected for each: what the end answers, as of an `L1Port` except for the state, or
+//! `broken PREMISE SHOWN BOUND` and then `text` with the error's own text. At the end come `a STATE ticks N`, the same
+//! of `b`, and `last K`, the number of the newest message.
 ghost use Rattle.std.specs.Prelude.{◌≤◌, IfOk};
 ghost use Rattle.wrp_l1sync.specs.Pair.{IsFit};
 

@@ -1,6 +1,6 @@
-//! Cases on `L1Port`: the input is a line `timing TIMEOUT INTERVAL`, and then a line an input: `enable`, `disable`, `own REQ IS`,
-//! `msg REQ IS` or `tick`. A line is due for each: the state where it changed, else `-`; `send req REQ is IS` where a message is
-//! sent; and `state STATE`.
+//! Cases on `L1Port`: the input is a line `timing TIMEOUT INTERVAL`, and then a line for each input: `enable`,
+//! `disable`, `own REQ IS`, `msg REQ IS` or `tick`. A line is expected for each: the state if it changed, else `-`;
+//! `send req REQ is IS` if a message is sent; and `state STATE`.
 ghost use Rattle.std.specs.Prelude.{◌≤◌, IfOk};
 
 use crate::machines::{Machine, answer_of};

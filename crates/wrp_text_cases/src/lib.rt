@@ -21,7 +21,7 @@ mod words;
 use std::alloc::Global;
 use wrp_suite::{Answer, Case, Fault, Kinds};
 
-/// The calls that read texts, and those of the machines beside a node.
+/// The calls that read texts, and the calls of the machines beside a node.
 pub struct Texts;
 
 impl Kinds for Texts {

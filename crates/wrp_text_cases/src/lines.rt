@@ -1,6 +1,6 @@
-//! Cases on the lines of traces. The input of a case `block` is a block of lines: for each a line is due with its
-//! parts, `|` behind each; and twice `end`, since a block that ended says so again. That of a case `line` is one
-//! line: due is `plain`, or `not plain`.
+//! Cases on the lines of traces. The input of a case `block` is a block of lines: for each a line is expected
+//! with its parts, `|` after each; and twice `end`, since a block that ended says so again. The input of a case
+//! `line` is one line: `plain` or `not plain` is expected.
 use csv::ByteRecord;
 use std::alloc::{AllocError, Global};
 use wrp_fields::{Block, is_plain};

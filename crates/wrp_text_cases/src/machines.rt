@@ -1,5 +1,5 @@
-//! A machine that takes lines, one after the other. Each line of a case's input behind those that make the machine is one, and what
-//! the machine answers to each is due.
+//! A machine that takes lines, one after the other. Each line of a case's input after the lines that make the machine
+//! is one, and what the machine answers to each is expected.
 use crate::words::words_of;
 use std::alloc::Global;
 use wrp_suite::{Answer, Fault};

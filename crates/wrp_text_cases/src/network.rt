@@ -1,13 +1,14 @@
-//! Cases on `Network::read`: the input is a network file. Where it is accepted, a line is due for each word of the case:
+//! Cases on `Network::read`, whose input is a network file. If it is accepted, a line is expected for each word:
 //!
-//!     network.KEY         a number of `[network]`, as the file has it (`settings` tells more of them)
+//!     network.KEY         a number of `[network]`, as the file has it (`settings` says more of them)
 //!     NODE.KEY            a number or a bound of a node (`nodes`)
 //!     LINK.KEY            a number of a link (`links`)
 //!     LINK.table          the points of the stored law of its fibre
 //!     NODE:PORT:MODULE    the numbers of a module at a port
 //!     NODE or LINK        all that is kept of it, in one line
 //!
-//! `none` stands where there is no such thing. Otherwise the code of the fault is due, and a line with its place.
+//! `none` is printed if there is no such thing. If the file is refused, the code of the fault and a line with its place
+//! are expected.
 ghost use Rattle.wrp_config.specs.Accepted.{IsAccepted};
 
 mod links;
@@ -55,7 +56,7 @@ fn tell_key(
     }
 }
 
-// Appends the line of a module at a port, which is behind the name of the node.
+// Appends the line of a module at a port, which follows the name of the node.
 fn tell_port(
     text: &mut String,
     net: &Network,
@@ -105,7 +106,7 @@ fn tell_all(text: &mut String, net: &Network, words: &[String]) -> Result<(), Al
     Ok(())
 }
 
-// What is told of a network that was read.
+// What is printed of a network that was read.
 fn answer_of_network(alloc: Global, net: &Network, words: &[String]) -> Result<Answer, Fault>
     requires { IsAccepted net.now.cfg net.now.db }
 {

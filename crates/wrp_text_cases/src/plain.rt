@@ -1,6 +1,6 @@
-//! Cases on `Plain`: the input is a line with its settings (`plain_settings`), and then a line a call: `measured T1 T2 T3 T4`
-//! or `tick`. A line is due for each call: `taken EST BOUND COMMAND`, `short ROUND LEAST`, or of a tick `report EST BOUND`, or
-//! `nothing`.
+//! Cases on `Plain`: the input is a line with its settings (`plain_settings`), and then a line for each call:
+//! `measured T1 T2 T3 T4` or `tick`. A line is expected for each call: `taken EST BOUND COMMAND`, `short ROUND LEAST`,
+//! or of a tick `report EST BOUND`, or `nothing`.
 use crate::machines::{Machine, answer_of};
 use crate::plain_settings::{servo_setting_of, stamp_of};
 use crate::words::{first_line, text_of, words_of};

@@ -1,7 +1,8 @@
-//! Cases on `PlainWorld`: the input is a line with the servo's settings (`plain_settings`), a line `offset OFF` with the true
-//! offset at the start, and then a line an event: `pass DT DRIFT`, `tick`, or `exch SPAN DMS DSM O2 O3 T1 T2 T3 T4`. A line is
-//! due for each event: `report est EST bound BOUND command N true OFF`, or `nothing command N true OFF` where there is no report,
-//! or `broken PREMISE SHOWN BOUND`.
+//! Cases on `PlainWorld`: the input is a line with the servo's settings (`plain_settings`), a line `offset OFF` with
+//! the true offset at the start, and then a line for each event: `pass DT DRIFT`, `tick`, or
+//! `exch SPAN DMS DSM O2 O3 T1 T2 T3 T4`. A line is expected for each event:
+//! `report est EST bound BOUND command N true OFF`, or `nothing command N true OFF` if there is no report, or
+//! `broken PREMISE SHOWN BOUND`.
 ghost use Rattle.std.specs.Prelude.{◌≤◌, ◌^◌, IfOk, unsigned_abs};
 ghost use Rattle.wrp_plain.specs.Event.{HasFields, IsShort};
 

@@ -1,4 +1,4 @@
-//! What several cases tell: words and numbers, with one blank between them. Each call appends to the text that is told.
+//! What several cases print: words and numbers, with one blank between them. Each call appends to the printed text.
 use std::alloc::AllocError;
 
 /// Appends the line of a word under which nothing is found.

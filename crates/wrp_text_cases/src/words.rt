@@ -13,7 +13,7 @@ pub fn text_of(case: &Case) -> Result<&str, Fault> {
     }
 }
 
-/// The first line of a text, and the lines behind it.
+/// The first line of a text, and the lines after it.
 pub fn first_line(text: &str) -> (&str, &str) {
     text.split_once('\n').unwrap_or((text, ""))
 }

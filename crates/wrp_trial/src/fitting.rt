@@ -83,7 +83,7 @@ fn are_swaps(swaps: &[Swap]) -> bool
     }
 }
 
-/// Whether an event can come to a network of two or three nodes; no is answered too where it puts more
+/// Whether an event can come to a network of two or three nodes; the answer is no also if it puts more
 /// than one module in place.
 pub fn can_come(cfg: &NetCfg, event: &Event) -> bool
     ensures { IsTrue result → IsEventOf cfg.now event.now }

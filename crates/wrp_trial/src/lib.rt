@@ -1,5 +1,5 @@
 //! A world of three nodes under test: its network, the delay laws of its links, which events can come to it, and what
-//! comes of them. Whoever makes the events drives it.
+//! follows from them. Whoever makes the events drives it.
 #![tactic(auto)]
 
 mod fitting;

@@ -1,4 +1,4 @@
-//! A world under test: its network with its laws, and what comes of an event.
+//! A world under test: its network with its laws, and what follows from an event.
 ghost use Rattle.std.specs.Prelude.{◌≡◌, ◌≤◌, length, IfOk, IsTrue};
 ghost use Rattle.wrp_network.specs.Network.{node_count};
 ghost use Rattle.wrp_config.specs.Accepted.{IsAccepted};
@@ -39,7 +39,7 @@ impl<T: Drop> From<AllocFailed<T>> for Lack {
     }
 }
 
-/// What comes of an event.
+/// What follows from an event.
 #[derive(Clone, Copy, Debug, PartialEq, Eq)]
 pub enum Told {
     /// It is taken.
@@ -172,7 +172,7 @@ fn give<F: Fn(i64) -> i64>(trial: &mut Trial<F>, event: &Event) -> Told
     }
 }
 
-/// An event comes; where there was no memory the world is as it was, and the event comes once more.
+/// An event comes; if memory ran out the world is as it was, and the event comes once more.
 pub fn takes<F: Fn(i64) -> i64>(trial: &mut Trial<F>, event: &Event) -> Told
     requires valid { IsValid F.pre F.post trial.old.world }
     requires came { trial.old.world.plant.events ≤ trial.old.came }

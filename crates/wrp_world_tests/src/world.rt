@@ -112,7 +112,7 @@ fn two_nodes_reach_track(rt: HostRuntime) -> Result<(), Fail> {
     Ok(())
 }
 
-// The stamps and tags of gm, and those and the beat bits of sw1, are all the least or all the greatest.
+// The stamps and tags of gm, and the stamps, tags and beat bits of sw1, are all the least or all the greatest.
 #[test]
 fn two_nodes_track_at_ends(rt: HostRuntime) -> Result<(), Fail> {
     for signs in [0, 0b1001, 0b1001_0010, 0b1001_1011] {

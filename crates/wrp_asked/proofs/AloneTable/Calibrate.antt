@@ -22,7 +22,7 @@ may input TooLarge octets at = (3, omega arith, refl)
 may input Broken octets at = absurd at.1.refused
 may input _ octets at = absurd at.1
 
--- a calibration tells the truth
+-- a calibration reports the truth
 aim : (input : List ℕ) (status : Status) (octets : List ℕ) → Leaves (of_lines calibration) input status octets → CalibratesSo input status octets
 aim input Done octets at = λ true say. inputs_tell_truth input true say Done octets (at.answer refl).1
 aim input BadCalib octets at = λ true say. inputs_tell_truth input true say BadCalib octets (at.answer refl).1

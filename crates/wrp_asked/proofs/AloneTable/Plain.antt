@@ -28,7 +28,7 @@ may input TooLarge octets at = (3, omega arith, refl)
 may input BadCalib octets at = absurd at.1.broken
 may input _ octets at = absurd at.1
 
--- whatever an input has, a plain servo tells the truth
+-- whatever an input has, a plain servo reports the truth
 tells_truly : (input : List ℕ) → TellsTruly input
 tells_truly input first lines rest divided start events course =
     (records_tell_truth_holds first lines start events course, reports_hold_until_tick_holds first lines start events course)

@@ -23,9 +23,9 @@ use wrp_port::Port;
 use wrp_servo::Servo;
 
 impl<F: Fn(i64) -> i64> Node<F> {
-    /// A node before any input: all its ports are down, and its counters 0. It has a law exactly where
-    /// it has a slave port. It takes all the memory that it will need. AllocError where there is no room
-    /// for the list of its ports or for one of them: then there is no node, and `cfg` and `law` are gone.
+    /// A node before any input: all its ports are down, and its counters 0. It has a law if and only if
+    /// it has a slave port. It takes all the memory that it will need. AllocError if there is no room for
+    /// the list of its ports or for one of them: then there is no node, and `cfg` and `law` are gone.
     pub fn new(alloc: Global, cfg: NodeSet, law: Option<DelayLaw<F>>) -> Result<Node<F>, AllocError>
         requires set { FitsNodeSet cfg }
         requires law { is_some law ≡ is_some (slave_of cfg) }

@@ -42,7 +42,7 @@ impl<F: Fn(i64) -> i64> Node<F> {
     }
 }
 
-// A step of the clock, where it is one.
+// A step of the clock, if it is not 0.
 fn put_step(cycles: i64, outs: &mut Outputs)
     requires room { length outs.old.items + 1 ≤ 96 }
     ensures items { outs.new.items ≡ outs.old.items ++ step_out cycles }
@@ -63,7 +63,7 @@ fn push_step(cycles: i64, outs: &mut Outputs)
     outs.push(Output::Step { cycles });
 }
 
-// A DAC value, where it is a new one.
+// A DAC value, if there is a new one.
 fn put_dac(dac: Option<u16>, outs: &mut Outputs)
     requires room { length outs.old.items + 1 ≤ 96 }
     ensures items { outs.new.items ≡ outs.old.items ++ dac_out dac }
@@ -83,7 +83,7 @@ fn push_dac(value: u16, outs: &mut Outputs)
     outs.push(Output::Dac { value });
 }
 
-// The state of the servo, where it changed.
+// The state of the servo, if it changed.
 fn put_state(before: ServoState, after: ServoState, outs: &mut Outputs)
     requires room { length outs.old.items + 1 ≤ 96 }
     ensures items { outs.new.items ≡ outs.old.items ++ servo_out before after }

@@ -1,4 +1,4 @@
-//! The link states of a node's ports, as the node tells them.
+//! The link states of a node's ports, as the node reports them.
 ghost use Rattle.std.specs.Prelude.{◌≡◌, ℕ, map, true};
 ghost use Rattle.wrp_node.specs.Node.{Tells};
 ghost use Rattle.wrp_node.specs.Parts.{is_among};

@@ -44,8 +44,8 @@ impl<F: Fn(i64) -> i64> Node<F> {
         }
     }
 
-    // A tick: it is counted, then the lease has its turn, of which the servo is told, then the servo
-    // has its tick, then the ports.
+    // A tick. It is counted; then the lease has its turn, and the servo is given it if it changed; then
+    // the servo has its tick, then the ports.
     fn tick(&mut self)
         requires law { KeepsLaw F.pre F.post self.old.control }
         requires room { self.old.parts.ticks + 1 < 2 ^ 32 }
@@ -60,7 +60,7 @@ impl<F: Fn(i64) -> i64> Node<F> {
         self.ports_tick();
     }
 
-    // The servo is told of a changed lease.
+    // Gives the servo the lease, if it changed.
     pub(super) fn tell_lease(&mut self)
         requires law { KeepsLaw F.pre F.post self.old.control }
         ensures law { KeepsLaw F.pre F.post self.new.control }
@@ -75,7 +75,7 @@ impl<F: Fn(i64) -> i64> Node<F> {
         }
     }
 
-    // The servo is told of a changed WR_LINK_ON.
+    // Gives the servo WR_LINK_ON, if it changed.
     pub(super) fn tell_link(&mut self)
         requires law { KeepsLaw F.pre F.post self.old.control }
         ensures law { KeepsLaw F.pre F.post self.new.control }
@@ -124,7 +124,7 @@ impl<F: Fn(i64) -> i64> Node<F> {
         self.parts.take_answer(&out, n);
     }
 
-    // A sending is told.
+    // A frame of the node was sent: its port is given this.
     fn sent(&mut self, port: u16, seq: u16, delay: bool, stamp: Stamp)
         requires { IsStamp stamp }
         ensures control { self.new.control ≡ self.old.control }
@@ -160,7 +160,7 @@ impl<F: Fn(i64) -> i64> Node<F> {
         self.parts.take_answer(&out, 0);
     }
 
-    // The node starts anew.
+    // The node restarts.
     fn reset(&mut self)
         requires law { KeepsLaw F.pre F.post self.old.control }
         ensures law { KeepsLaw F.pre F.post self.new.control }
@@ -186,7 +186,7 @@ impl<F: Fn(i64) -> i64> Node<F> {
         }
     }
 
-    // A message: where it makes a measurement, the servo is told.
+    // A message: if it makes a measurement, the servo is given this.
     fn message(&mut self, port: u16, message: &PtpMsg, raw: &Raw, sample: u32)
         requires law { KeepsLaw F.pre F.post self.old.control }
         requires port { is_among port self.old.parts.ports ≡ true }

@@ -1,10 +1,10 @@
-//! Where the ports of a node stand, by their numbers.
+//! The places of a node's ports, by their numbers.
 ghost use Rattle.std.specs.Prelude.{◌≤◌, length};
 ghost use Rattle.wrp_node.specs.Index.{numbers_in, IsWhere, Indexes};
 
 use crate::place::PortPlace;
 
-/// For each number from 1 to 18, where the port of that number stands; None where no port has it.
+/// For each number from 1 to 18, the place of the port with that number; None if no port has it.
 pub type Index = [Option<u8>; 18];
 
 /// The index of these ports.
@@ -19,7 +19,7 @@ pub fn index_of(places: &[PortPlace]) -> Index
     index
 }
 
-/// Where the port of a number stands, looked for from the first port on; None where no port has it.
+/// The place of the port with a number, searched for from the first port on; None if no port has it.
 pub fn look_for(number: u16, places: &[PortPlace]) -> Option<u8>
     requires { length places.now ≤ 18 }
     ensures { IsWhere number (numbers_in places.now) result }

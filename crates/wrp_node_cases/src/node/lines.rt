@@ -35,7 +35,7 @@ fn line_of(alloc: Global, output: &Output) -> Result<String, AllocError> {
     }
 }
 
-/// Tells of the outputs of one input.
+/// Appends the lines of the outputs of one input.
 pub fn tell(alloc: Global, outs: &Outputs, told: &mut Told) -> Result<(), AllocError> {
     for output in outs.as_slice() {
         let line = line_of(alloc, output)?;
@@ -55,7 +55,7 @@ fn has_port<F: Fn(i64) -> i64>(node: &Node<F>, port: u16) -> bool
     })
 }
 
-// Tells of the counters of a port that are not 0.
+// Appends the lines of the counters of a port that are not 0.
 fn tell_port<F: Fn(i64) -> i64>(
     alloc: Global,
     node: &Node<F>,
@@ -76,7 +76,7 @@ fn tell_port<F: Fn(i64) -> i64>(
     Ok(())
 }
 
-/// Tells of the counters of a node that are not 0, by port and reason.
+/// Appends the lines of the counters of a node that are not 0, by port and reason.
 pub fn tell_counts<F: Fn(i64) -> i64>(
     alloc: Global,
     node: &Node<F>,

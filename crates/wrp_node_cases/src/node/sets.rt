@@ -1,8 +1,8 @@
 //! The nodes of the cases. A chain of three: `gm`, whose port 1 leads to `sw1`; `sw1`, whose port 1 is a slave of `gm`
 //! and whose port 2 leads to `leaf`; and `leaf`, whose port 1 is a slave of `sw1`. And `star`: a grandmaster of 18
 //! ports, each of which leads to the port of the same number of `sw1`, where quiet time is one tick and Announce and
-//! Sync come at each tick. Else the numbers are those of a network file without keys, but for three of the servo that
-//! keep the lists short.
+//! Sync come at each tick. Otherwise the numbers are the numbers of a network file without keys, except for three of
+//! the servo that keep the lists short.
 ghost use Rattle.std.specs.Prelude.{◌≡◌, ◌≤◌, is_some, true, false};
 ghost use Rattle.wrp_node.specs.New.{FitsNodeSet, FitsPorts, OfDifferentNumbers};
 ghost use Rattle.wrp_node.specs.NodeAt.{slave_in, slave_of};

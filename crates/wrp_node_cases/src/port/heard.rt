@@ -1,6 +1,6 @@
 //! Messages that come to a port, in words:
 //!
-//!     announce FLAGS SUFFIX                     SUFFIX is `-` where there is none
+//!     announce FLAGS SUFFIX                     SUFFIX is `-` if there is none
 //!     sync SEQ CORRECTION STAMP SAMPLE          the reading of its reception, and the newest sample at it
 //!     follow-up SEQ CORRECTION SECONDS
 //!     delay-req SEQ CORRECTION STAMP

@@ -4,8 +4,8 @@
 //!     down                          it goes
 //!     tick | tick locked | tick doubtful      a tick: unlocked and certain; locked; or of a node that is not certain
 //!     turn                          a turn of the lease
-//!     sent sync SEQ STAMP           the sending of a Sync is told, at tick 8
-//!     sent delay SEQ STAMP SAMPLE   that of a Delay_Req
+//!     sent sync SEQ STAMP           a Sync was sent; given at tick 8
+//!     sent delay SEQ STAMP SAMPLE   the same of a Delay_Req
 //!     sample N PHASE                a good sample
 //!     chain same | chain ended | chain started N
 //!     reset

@@ -1,4 +1,4 @@
-//! What a port answers, in lines, and what stands at it then:
+//! What a port answers, in lines, and what it then holds:
 //!
 //!     link WORD                     its new word
 //!     send MESSAGE ..               a message, with each of its fields
@@ -97,7 +97,7 @@ fn text_of_body(alloc: Global, body: &Body) -> Result<String, AllocError> {
     }
 }
 
-// Tells of a message.
+// Appends the line of a message.
 fn tell_message(alloc: Global, message: &PtpMsg, told: &mut Told) -> Result<(), AllocError> {
     let body = text_of_body(alloc, &message.body)?;
     let source = text_of_port(alloc, &message.head.source)?;
@@ -115,7 +115,7 @@ fn tell_message(alloc: Global, message: &PtpMsg, told: &mut Told) -> Result<(), 
     told.push(line.as_str())
 }
 
-// Tells of a measurement.
+// Appends the line of a measurement.
 fn tell_four(alloc: Global, four: &Four, told: &mut Told) -> Result<(), AllocError> {
     let Four {
         t1,
@@ -130,7 +130,7 @@ fn tell_four(alloc: Global, four: &Four, told: &mut Told) -> Result<(), AllocErr
     told.push(line.as_str())
 }
 
-// Tells what stands at a port: its lease, and the delays of its link.
+// Appends the lines of what a port holds: its lease, and the delays of its link.
 fn tell_standing(alloc: Global, port: &Port, told: &mut Told) -> Result<(), AllocError> {
     if port.lease() {
         told.push("lease")?;
@@ -142,7 +142,7 @@ fn tell_standing(alloc: Global, port: &Port, told: &mut Told) -> Result<(), Allo
     Ok(())
 }
 
-/// Tells of an answer.
+/// Appends the lines of an answer.
 pub fn tell(alloc: Global, port: &Port, out: &PortOut, told: &mut Told) -> Result<(), AllocError> {
     if let Some(word) = out.word {
         let word = name_of_word(word);

@@ -6,15 +6,15 @@
 //!     chain started N | chain ended
 //!     drop REASON                   a sample or a measurement is refused
 //!
-//! and what stands, in one line: `servo STATE DETECTOR OFFSET DAC TRACKING`, where DETECTOR is `locked` or `open`,
-//! OFFSET is `-` where no four stands, and TRACKING is whether TRACK stands: `tracking` or `-`.
+//! and its state, in one line: `servo STATE DETECTOR OFFSET DAC TRACKING`, where DETECTOR is `locked` or `open`,
+//! OFFSET is `-` if there is no four, and TRACKING is `tracking` if the state is TRACK, else `-`.
 use crate::names::{name_of_reason, name_of_servo};
 use crate::told::Told;
 use std::alloc::{AllocError, Global};
 use wrp_base::{ChainNews, Tau};
 use wrp_servo::{Servo, ServoOut};
 
-// Tells of a sample that was good.
+// Appends the lines of a good sample.
 fn tell_sample(alloc: Global, out: &ServoOut, told: &mut Told) -> Result<(), AllocError> {
     if let Some(value) = out.dac {
         let line = format!(in alloc; "dac {value}")?;
@@ -27,7 +27,7 @@ fn tell_sample(alloc: Global, out: &ServoOut, told: &mut Told) -> Result<(), All
     Ok(())
 }
 
-/// Tells of an answer.
+/// Appends the lines of an answer.
 pub fn tell(alloc: Global, out: &ServoOut, told: &mut Told) -> Result<(), AllocError> {
     let cycles = out.cycles;
     if cycles != 0 {
@@ -51,7 +51,7 @@ pub fn tell(alloc: Global, out: &ServoOut, told: &mut Told) -> Result<(), AllocE
     told.end()
 }
 
-// The offset by the four that stands.
+// The offset by the kept four.
 fn text_of_offset(alloc: Global, offset: Option<Tau>) -> Result<String, AllocError> {
     match offset {
         Some(offset) => format!(in alloc; "{offset}"),
@@ -64,7 +64,7 @@ fn word_by(is: bool, yes: &'static str, no: &'static str) -> &'static str {
     if is { yes } else { no }
 }
 
-/// Tells what stands.
+/// Appends the line of the servo's state.
 pub fn tell_state<F: Fn(i64) -> i64>(
     alloc: Global,
     servo: &Servo<F>,

@@ -1,5 +1,5 @@
-//! The settings of a servo: `usual` are those of a network file without keys, and `usual 62` the same at 62.5 MHz; at
-//! `small` the detector locks at 2, and counts errors of up to 10,000 tau, and the gains are 0.
+//! The settings of a servo: `usual` are the settings of a network file without keys, and `usual 62` the same at 62.5
+//! MHz; at `small` the detector locks at 2, and counts errors of up to 10,000 tau, and the gains are 0.
 ghost use Rattle.std.specs.Prelude.{IfOk};
 ghost use Rattle.wrp_servo.specs.Sizes.{FitsServoSet};
 

@@ -101,7 +101,7 @@ impl Port {
         }
     }
 
-    // An Announce at a slave: it is told to the link, and renews the lease where the parent's time is
+    // An Announce at a slave: the link is given it, and it renews the lease if the parent's time is
     // certain.
     fn announce(&mut self, head: &Head, suffix: Option<u16>, sends: &mut Sends) -> Answer
         requires { sends.old.items ≡ [] }
@@ -177,7 +177,7 @@ impl Port {
         Answer::using(kept, None)
     }
 
-    // A Follow_Up at a slave: where it makes a pair and both pairs stand, there is a measurement.
+    // A Follow_Up at a slave: if it makes a pair and both pairs are there, there is a measurement.
     fn follow_up(&mut self, head: &Head, precise: Ts) -> Answer
         requires { FitsTimestamp precise }
         ensures set { self.new.set ≡ self.old.set }
@@ -229,7 +229,7 @@ impl Port {
         Answer::using(made, measured)
     }
 
-    // The four stamps of both pairs, where a pair was made.
+    // The four stamps of both pairs, if a pair was made.
     fn four_where(&self, made: bool) -> Option<Four>
         ensures times { IfSome result HasTimes }
         ensures value { (ring : ℕ) (calls : List Call) (pairs : Bool) →

@@ -92,7 +92,7 @@ impl Port {
         self.line.lease = self.line.lease.saturating_sub(1);
     }
 
-    // A tick: first the link, then what is due. A Delay_Req that is sent is told to the exchange.
+    // A tick: first the link, then what is due. The exchange is given a Delay_Req that is sent.
     pub(super) fn tick(&mut self, locked: bool, certain: bool, sends: &mut Sends)
         requires { sends.old.items ≡ [] }
         ensures set { self.new.set ≡ self.old.set }
@@ -109,7 +109,7 @@ impl Port {
         self.line.schedule(&self.set, certain, sends);
     }
 
-    // Tells the exchange of a slave the Delay_Req that is due.
+    // Gives the exchange of a slave the Delay_Req that is due.
     fn note_request(&mut self)
         ensures set { self.new.set ≡ self.old.set }
         ensures line { self.new.line ≡ self.old.line }
@@ -123,7 +123,7 @@ impl Port {
         }
     }
 
-    // The sending of a Sync is told: the newest one's gives its Follow_Up while the port is open.
+    // A Sync was sent: if it is the newest one and the port is open, its Follow_Up is sent.
     fn sync_sent(&self, seq: u16, stamp: Stamp, sends: &mut Sends)
         requires stamp { IsStamp stamp }
         requires sends { sends.old.items ≡ [] }
@@ -134,7 +134,7 @@ impl Port {
         }
     }
 
-    // Whether a sequenceId is that of the newest Sync.
+    // Whether the newest Sync has this sequenceId.
     fn is_newest(&self, seq: u16) -> bool
         ensures { result ≡ is_newest self.now.line.ids.newest_sync seq }
     {
@@ -144,7 +144,7 @@ impl Port {
         }
     }
 
-    // The sending of a Delay_Req is told: a slave's exchange keeps it.
+    // A Delay_Req was sent: a slave's exchange keeps it.
     fn request_sent(&mut self, seq: u16, stamp: Stamp, tick: u32)
         requires { IsStamp stamp }
         ensures set { self.new.set ≡ self.old.set }
@@ -209,7 +209,7 @@ impl Port {
         }
     }
 
-    // The node starts anew.
+    // The node restarts.
     fn reset(&mut self)
         ensures set { self.new.set ≡ self.old.set }
         ensures line { self.new.line ≡ new_line self.old.set }

@@ -50,8 +50,8 @@ impl Port {
         self.sample(n, u);
     }
 
-    /// Takes a message as `step` does, and fills `out` with what `step` answers. What `out` had before
-    /// is gone. What a None says, and what a dropped message leaves, is as `step` has it.
+    /// Takes a message as `step` does, and fills `out` with what `step` returns. What `out` had before
+    /// is gone. What a None says, and what a dropped message leaves, is as for `step`.
     pub fn hear_into(&mut self, message: &PtpMsg, stamp: Stamp, tick: u32, out: &mut PortOut)
         requires sound { IsSound message.now }
         requires stamp { IsStamp stamp }

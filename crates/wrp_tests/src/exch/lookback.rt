@@ -41,7 +41,7 @@ struct Up {
     tick: u32,
 }
 
-// Where the chain that stands after these calls began, and its first sample.
+// Where the chain after these calls began, and its first sample.
 fn chain(calls: &[Call]) -> Option<(usize, u32)> {
     let mut found = None;
     for (at, call) in calls.iter().enumerate() {
@@ -75,7 +75,7 @@ fn known_phase(ring: usize, calls: &[Call], sample: u32) -> Option<i64> {
     None
 }
 
-// The phase at this sample, if a chain stands that it is not before, and it is known.
+// The phase at this sample, if there is a chain that it is not before, and it is known.
 fn usable_phase(ring: usize, calls: &[Call], sample: u32) -> Option<i64> {
     let (_, first) = chain(calls)?;
     if sample < first {
@@ -110,7 +110,7 @@ fn followed(ring: usize, calls: &[Call], seq: u16, precise: i64) -> Option<Down>
     Some(Down { t1, t2, u2, tick })
 }
 
-// The sending told after these calls, if it is of the last request: t3, phase, tick.
+// The sending given after these calls, if it belongs to the last request: t3, phase, tick.
 fn told(ring: usize, calls: &[Call], seq: u16, sample: u32) -> Option<i64> {
     let (start, _) = chain(calls)?;
     let mut last = None;

@@ -1,8 +1,8 @@
-//! TRACK by its definition, plainly and slowly: a call that enters it and none after that leaves it,
-//! where all that the causes ask for is computed anew from the whole list before the call.
+//! TRACK by its definition, plainly and slowly: a call that enters it and no later call that leaves it,
+//! where everything that the causes ask for is computed again from the whole list before the call.
 use wrp_base::ServoState;
 
-/// A call. The delay both ways of a four is `down + up`, and the offset that it tells is half of
+/// A call. The delay both ways of a four is `down + up`, and the offset that it shows is half of
 /// `down - up`, as the fibre's two ways are equal.
 #[derive(Clone, Copy)]
 pub enum Call {
@@ -21,7 +21,7 @@ const HALF: i64 = 262_144_000;
 
 const STEP: i64 = 32_000;
 
-// What stands after a list of calls.
+// What a servo holds after a list of calls.
 #[derive(Clone, Copy)]
 struct Standing {
     carrier: bool,
@@ -117,7 +117,7 @@ fn residual(v: &Standing, four: i64) -> i64 {
     four.wrapping_add(v.u).wrapping_sub(error(v))
 }
 
-// The offset of a four without the phase, and its tick, where the delay both ways is in range.
+// The offset of a four without the phase, and its tick, if the delay both ways is in range.
 fn measured(x: Call) -> Option<Option<(i64, u32)>> {
     match x {
         Call::Four { down, up, tick } => {
@@ -201,7 +201,7 @@ fn leaves(v: &Standing, x: Call) -> bool {
     }
 }
 
-// The chain ends, where one stands.
+// The chain ends, if there is one.
 fn ended(v: &Standing) -> Standing {
     let mut w = *v;
     if v.chain {
@@ -232,7 +232,7 @@ fn restarted(v: &Standing) -> Standing {
     w
 }
 
-// The state where the link or the carrier is off.
+// The state if the link or the carrier is off.
 fn grounded(v: &Standing) -> Standing {
     let mut w = ended(v);
     if w.state != ServoState::Holdover {
@@ -268,7 +268,7 @@ fn after_sample(v: &Standing, x: Call, n: u32) -> Standing {
     w
 }
 
-// The state after a four that tells this offset.
+// The state after a four that shows this offset.
 fn state_after_four(v: &Standing, x: Call, est: i64) -> ServoState {
     let near = est.unsigned_abs() <= HALF as u64;
     match v.state {
@@ -324,7 +324,7 @@ fn after_tick(v: &Standing) -> Standing {
     w
 }
 
-// What stands after one more call.
+// What a servo holds after one more call.
 fn after(v: &Standing, x: Call) -> Standing {
     let mut w = *v;
     match x {
@@ -364,7 +364,7 @@ fn after(v: &Standing, x: Call) -> Standing {
     }
 }
 
-// What stands after a list, from its first call on.
+// What a servo holds after a list, from its first call on.
 fn standing_after(list: &[Call]) -> Standing {
     let mut v = START;
     for &x in list {
@@ -373,8 +373,8 @@ fn standing_after(list: &[Call]) -> Standing {
     v
 }
 
-/// Whether TRACK stands after a list: looking back from its newest call, one that enters TRACK comes
-/// before one that leaves it.
+/// Whether the state is TRACK after a list: looking back from its newest call, one that enters TRACK
+/// comes before one that leaves it.
 pub fn tracking(list: &[Call]) -> bool {
     for at in (0..list.len()).rev() {
         let v = standing_after(&list[..at]);
@@ -388,7 +388,7 @@ pub fn tracking(list: &[Call]) -> bool {
     false
 }
 
-// A four that tells this offset, where both ways take no time.
+// A four that shows this offset; both ways take no time.
 fn near_four(offset: i64, tick: u32) -> Call {
     Call::Four {
         down: offset,

@@ -1,4 +1,4 @@
-//! What is told of a link: `link` is its place; then its numbers, by the names that `LinkCfg` has for them.
+//! What is printed of a link: `link` is its place; then its numbers, by the names that `LinkCfg` has for them.
 ghost use Rattle.std.specs.Prelude.{◌<◌, length};
 
 use crate::telling::{push_none, push_points};

@@ -1,6 +1,6 @@
-//! What is told of a node: `node` is its place; then its numbers by their keys; its bounds in tau, `hop` from its parent, `track`
-//! and `holdover` from the grandmaster; `held_motion`, how far it moves in HOLDOVER; and what its hop is made of, by the names of
-//! `HopNumbers`.
+//! What is printed of a node: `node` is its place; then its numbers by their keys; its bounds in tau, `hop` from its
+//! parent, `track` and `holdover` from the grandmaster; `held_motion`, how far it moves in HOLDOVER; and what its hop
+//! is made of, by the names of `HopNumbers`.
 ghost use Rattle.wrp_config.specs.Accepted.{IsAccepted};
 ghost use Rattle.wrp_network.specs.Network.{HasRanges, IsTree, node_count};
 ghost use Rattle.wrp_bounds.specs.Hop.{IsInRange};

@@ -1,6 +1,6 @@
-//! The numbers of `[network]`, under their keys and in the units of the file: times `.._ns` in ns, `epoch` in s, `.._tau` and
-//! `phase_step` in tau, the others counts. `period_ps` is that of the clock. Further `nodes` and `links` are how many there
-//! are, and `e_db`, `tx_max` and `rx_max` the greatest of the listed modules, in tau.
+//! The numbers of `[network]`, under their keys and in the units of the file: times `.._ns` in ns, `epoch` in s,
+//! `.._tau` and `phase_step` in tau, the others counts. `period_ps` is the period of the clock. Also, `nodes` and
+//! `links` are how many there are, and `e_db`, `tx_max` and `rx_max` are the greatest of the listed modules, in tau.
 use wrp_base::Clock;
 use wrp_network::NetCfg;
 

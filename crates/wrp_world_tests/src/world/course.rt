@@ -1,6 +1,6 @@
-//! What happens next in a world of three nodes: what goes on where all goes well, told from what is seen of
-//! the world alone. Stamps and beat bits are those of the true readings, or lie at an end of what they may
-//! be.
+//! What happens next in a world of three nodes: what goes on if all goes well, decided from what is seen of
+//! the world alone. Stamps and beat bits are taken from the true readings, or lie at an end of what they
+//! may be.
 use super::dice::Dice;
 use super::networks::{BIAS, DOWN, HELD, SLEW};
 use super::readings::{At, moved_in, raw_of, sample_of, stamp_of};
@@ -12,8 +12,8 @@ use wrp_world::Event;
 // 100 ms, in tau: as long as time passes at most.
 const REST: i128 = 6_553_600_000_000_000;
 
-/// How what is told is off: of each kind and node either always at the same end, or at either end from
-/// dice.
+/// How the values that nodes are given are off: for each kind and node either always at the same end, or
+/// at either end by dice.
 #[derive(Clone, Copy)]
 pub struct Ends {
     /// Whether each is always at the same end.
@@ -27,11 +27,11 @@ pub struct Ends {
 pub struct Course {
     /// The dice.
     pub dice: Dice,
-    /// How what is told is off; `None` where it is true.
+    /// How the given values are off; `None` if they are true.
     pub ends: Option<Ends>,
     /// Whether clocks and fibres move as fast as they may.
     pub wild: bool,
-    /// The rate of the slaves' clocks where their DACs have the value at rest, in 10^-12.
+    /// The rate of the slaves' clocks when their DACs have the value at rest, in 10^-12.
     pub free: i128,
     /// The true one-way delays down of both links.
     pub down: (Tau, Tau),
@@ -73,7 +73,7 @@ fn within(rate: i128, most: i128) -> i128 {
 }
 
 impl Course {
-    /// A course before any event, in which all that is told is true.
+    /// A course before any event, in which all given values are true.
     pub fn new(seed: u64) -> Course {
         Course {
             dice: Dice(seed),
@@ -87,7 +87,7 @@ impl Course {
         }
     }
 
-    /// Whether a bit of the signs is set; no where all that is told is true.
+    /// Whether a bit of the signs is set; no if all given values are true.
     pub fn is_set(&self, number: u32) -> bool {
         match self.ends {
             Some(ends) => ends.signs.wrapping_shr(number) % 2 == 1,
@@ -105,7 +105,7 @@ impl Course {
         if is_most { At::Most } else { At::Least }
     }
 
-    // The oldest frame departs that waits at the first end where one does.
+    // At the first end where a frame waits, the oldest one departs.
     fn departure(&mut self, seen: &Seen) -> Option<Event> {
         for (end, at) in ENDS.iter().zip(&seen.ends) {
             if at.waits {
@@ -151,7 +151,7 @@ impl Course {
         None
     }
 
-    // The sample that is due, if one is.
+    // The sample that is due, if there is one.
     fn sample(&mut self, seen: &Seen) -> Option<Event> {
         let node = self.samples.take()?;
         if !has_carrier(seen, node) {
@@ -237,7 +237,7 @@ impl Course {
         self.passes(seen, dt)
     }
 
-    /// The next event where all goes well: a sample that is due, a departure, a frame that is handed over, an
+    /// The next event if all goes well: a sample that is due, a departure, a frame that is handed over, an
     /// arrival, a tick, and else time passes.
     pub fn next(&mut self, seen: &Seen) -> Event {
         if let Some(event) = self.sample(seen) {

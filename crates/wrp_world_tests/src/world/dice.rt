@@ -38,7 +38,7 @@ impl Dice {
         }
     }
 
-    /// A link is cut or joined, or a node goes down or comes up, where a roll below a thousand says so.
+    /// A link is cut or joined, or a node goes down or comes up, if a roll below a thousand says so.
     pub fn fault(&mut self, roll: u64) -> Option<Event> {
         let link = self.below(2) as u8;
         match roll {

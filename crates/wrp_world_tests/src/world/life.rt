@@ -1,4 +1,4 @@
-//! The life of one frame: what a world tells of it after each event of a run of gm and sw1 alone.
+//! The life of one frame: what a world reports of it after each event of a run of gm and sw1 alone.
 ghost use Rattle.std.specs.Prelude.{◌≤◌, ◌^◌, unsigned_abs};
 ghost use Rattle.wrp_world.specs.StandsFor.{IsValid};
 
@@ -69,7 +69,7 @@ fn event(number: u32) -> Event {
     }
 }
 
-// What comes of an event: only the last one is refused, since the frame is older than 100 ms by 1 tau.
+// What follows from an event: only the last one is refused, since the frame is older than 100 ms by 1 tau.
 fn due(number: u32) -> Told {
     if number == 112 {
         Told::Broken(10, 6_553_600_000_000_001, 6_553_600_000_000_000)
@@ -78,7 +78,7 @@ fn due(number: u32) -> Told {
     }
 }
 
-// The frame is told of from its departure on, and no more once it is older than its life.
+// The frame is reported from its departure on, and no more once it is older than its life.
 fn lives<F: Fn(i64) -> i64>(rt: &impl Abort, trial: &mut Trial<F>)
     requires valid { IsValid F.pre F.post trial.old.world }
     requires came { trial.old.world.plant.events ≤ trial.old.came }

@@ -37,7 +37,7 @@ pub const SM: Tau = 3_276_361_177_636;
 /// The one-way delay down, with 14745600000 of blue and 14876672000 of violet.
 pub const DOWN: Tau = 3_306_861_094_364;
 
-/// The error of each module's entry and of the asymmetry, but for 1 tau that rounding takes.
+/// The error of each module's entry and of the asymmetry, except for 1 tau that rounding takes.
 pub const ERROR: i64 = 1_310_719;
 
 /// The error of a send stamp, and of a tag.

@@ -18,7 +18,7 @@ enum Aim {
     Track,
     // Links are on, while frames are lost, links are cut and nodes go down.
     Faults,
-    // Both slaves come to TRACK and, behind a cut, to HOLDOVER, with all that is told at an end.
+    // Both slaves come to TRACK and, after a cut, to HOLDOVER, with all given values at an end.
     Bounds,
 }
 
@@ -46,11 +46,11 @@ pub struct Plan {
     begun: u32,
     // The offsets with which sw1 and leaf come up.
     offs: (Tau, Tau),
-    // How what is told is off once sw1 is in TRACK.
+    // How the given values are off once sw1 is in TRACK.
     ends: Option<Ends>,
     // Whether the last event was one that goes wrong.
     went_wrong: bool,
-    // How far sw1 and leaf may be off in TRACK, and how much further in HOLDOVER; `None` where it is not known.
+    // How far sw1 and leaf may be off in TRACK, and how much further in HOLDOVER; `None` if it is not known.
     near: Option<(Tau, Tau, Tau)>,
 }
 
@@ -105,7 +105,7 @@ impl Plan {
     }
 
     /// sw1 comes to TRACK with a clock of this rate, up with this offset, and is there for 5000 events, in
-    /// which what is told lies at these ends.
+    /// which the given values lie at these ends.
     pub fn track(free: i128, off: Tau, ends: Option<Ends>) -> Plan {
         let mut plan = Plan::new(Aim::Track, Course::new(0), (off, 0));
         plan.course.free = free;
@@ -120,9 +120,9 @@ impl Plan {
         Plan::new(Aim::Faults, Course::new(seed), (196_608_000_000, 0))
     }
 
-    /// All is at an end from this seed, each kind of error always at the same one, or at either from dice.
-    /// The bounds follow from the numbers of the network: a hop is 18,429,857 to sw1 and 21,680,586 to leaf, and
-    /// 151,389 more are the HOLDOVER of a node, that of sw1 also for leaf.
+    /// All is at an end from this seed, each kind of error always at the same one, or at either by dice. The
+    /// bounds follow from the numbers of the network: a hop is 18,429,857 to sw1 and 21,680,586 to leaf, and
+    /// 151,389 more are the HOLDOVER of a node; the HOLDOVER of sw1 counts also for leaf.
     pub fn bounds(seed: u64, steady: bool) -> Plan {
         let mut course = Course::new(seed);
         let signs = course.dice.below(1 << 31);
@@ -138,7 +138,7 @@ impl Plan {
         plan
     }
 
-    // How far something is off that lies at an end; not at all where all that is told is true.
+    // How far something is off that lies at an end; not at all if all given values are true.
     fn off_by(&self, number: u32) -> i64 {
         match self.course.ends {
             None => 0,
@@ -274,7 +274,7 @@ impl Plan {
         }
     }
 
-    /// Sees how far the run has come, and answers whether it is over.
+    /// Sees how far the run has come, and returns whether it is over.
     pub fn is_over(&mut self, seen: &Seen) -> bool {
         if self.aim == Aim::Handshake {
             self.handshake.sees(seen);
@@ -314,8 +314,8 @@ impl Plan {
         }
     }
 
-    /// Whether a run that is over ends as it has to: a handshake is done, and a run that is to stay in TRACK is there; of
-    /// both, the ends of the upper link are in WR_LINK_ON.
+    /// Whether a run that is over ends as it has to: a handshake is done, and a run that is to stay in TRACK is there;
+    /// in both, the ends of the upper link are in WR_LINK_ON.
     pub fn ends_well(&self, seen: &Seen) -> bool {
         let are_on = seen.ends[0].on && seen.ends[1].on;
         match self.aim {

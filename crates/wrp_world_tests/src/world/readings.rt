@@ -1,5 +1,5 @@
-//! What a node is told of true readings: stamps, tags, counters and beat bits, as they truly are, or at an
-//! end of what they may be.
+//! What a node is given for true readings: stamps, tags, counters and beat bits, as they truly are, or at
+//! an end of what they may be.
 use super::networks::{E_TAG, E_TX};
 use wrp_base::{Raw, Tau};
 
@@ -11,18 +11,18 @@ const STEP: Tau = 32_000;
 // Rates are in 10^-12.
 const PARTS: i128 = 1_000_000_000_000;
 
-/// Where something that is told lies, in what it may be.
+/// Where a given value lies in what it may be.
 #[derive(Clone, Copy)]
 pub enum At {
     /// It is the least.
     Least,
-    /// It is true, but for the grain in which it is told.
+    /// It is true, except for the grain in which it is given.
     True,
     /// It is the greatest.
     Most,
 }
 
-// A reading that is told as the multiple of a grain below it, moved so that what is told lies there.
+// A reading that is given as the multiple of a grain below it, moved so that the given value lies there.
 fn moved(reading: Tau, at: At, most: Tau, grain: Tau) -> Tau {
     match at {
         At::Least => reading
@@ -71,7 +71,7 @@ pub fn raw_of(reading: Tau, at: At) -> Raw {
     }
 }
 
-/// The base and the beat bits of a phase: the true step is 32 behind the base.
+/// The base and the beat bits of a phase: the true step is 32 after the base.
 pub fn sample_of(phase: Tau, at: At) -> (u16, u64) {
     let step = u16::try_from(phase.rem_euclid(PERIOD) / STEP).unwrap_or(0);
     let bits = match at {

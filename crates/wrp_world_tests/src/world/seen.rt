@@ -18,7 +18,7 @@ pub const ENDS: [End; 4] = [(0, 1), (1, 1), (1, 2), (2, 1)];
 pub struct NodeSeen {
     /// The offset of its clock.
     pub off: Tau,
-    /// When it may tick first, and when it has to tick; `None` where it is down.
+    /// When it may tick first, and when it has to tick; `None` if it is down.
     pub due: Option<(Tau, Tau)>,
     /// The state of its servo, and whether its loop is locked.
     pub servo: ServoState,
@@ -37,7 +37,7 @@ pub struct EndSeen {
     pub on: bool,
 }
 
-/// The frame that arrives next: its number, when, at which node, and its wrMessageID where it is a White Rabbit message.
+/// The frame that arrives next: its number, when, at which node, and its wrMessageID if it is a White Rabbit message.
 #[derive(Clone, Copy)]
 pub struct Arrival {
     pub frame: u32,
@@ -152,7 +152,7 @@ fn receiver(sender: End) -> u8 {
     }
 }
 
-// The wrMessageID of a frame: in a Signaling it stands behind the header, the target, and the head of the first TLV.
+// The wrMessageID of a frame: in a Signaling it follows the header, the target, and the head of the first TLV.
 fn message_of(frame: &[u8]) -> Option<u16> {
     let (Some(0x0c), Some(high), Some(low)) = (frame.first(), frame.get(54), frame.get(55)) else {
         return None;
@@ -173,7 +173,7 @@ fn next_arrival<F: Fn(i64) -> i64>(world: &World<F>) -> Option<Arrival>
     })
 }
 
-/// What is seen of a world; `None` where it has not three nodes.
+/// What is seen of a world; `None` if it has not three nodes.
 pub fn see<F: Fn(i64) -> i64>(world: &World<F>) -> Option<Seen>
     requires { IsValid F.pre F.post world.now }
 {

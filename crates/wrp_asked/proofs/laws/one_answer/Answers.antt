@@ -1,4 +1,4 @@
--- One status and one text are due.
+-- One status and one text are expected.
 use Rattle.wrp_asked.proofs.OneAnswer.{one_answer}
 use Rattle.wrp_asked.proofs.laws.one_answer.Goals as goal
 

@@ -1,4 +1,4 @@
--- None is broken exactly where each is kept.
+-- None is broken if and only if each is kept.
 use Rattle.std.proofs.Common.{◌≡◌, refl, sym, ◌∙◌, Some, None}
 use Rattle.wrp_bounds.proofs.Kept.{kept_of_none, none_of_kept}
 use Rattle.wrp_bounds.proofs.inequalities.check.Goals as goal

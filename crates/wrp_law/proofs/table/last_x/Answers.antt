@@ -1,4 +1,4 @@
--- The last point stands at the end of the list.
+-- The last point is at the end of the list.
 use Rattle.std.proofs.Common.{SFits, ◌-◌, pos, length, get_or, rules, ◌∙◌, sym, w64}
 use Rattle.std.proofs.lemmas.Int.{to_z-of_z}
 use Rattle.wrp_law.proofs.Tables.{last_x-at}

@@ -7,12 +7,12 @@ use Rattle.wrp_law.specs.Table.{FitsPoint}
 use Rattle.wrp_law.proofs.Tables.{fits_x, fits_y}
 use Rattle.wrp_law.proofs.table.on_segment.Goals as goal
 
--- a difference is that of the two numbers
+-- a difference is the difference of the two numbers
 apart : (from to result : ℤ) → SFits w64 from → SFits w64 to → SFits w128 result → result ≡ to_z w64 (of_z w64 to) -ℤ to_z w64 (of_z w64 from) → to_z w128 (of_z w128 result) ≡ to -ℤ from
 apart from to result from_fits to_fits fits is =
     to_z-of_z w128 result fits ∙ is ∙ (λ i. to_z-of_z w64 to to_fits i -ℤ to_z-of_z w64 from from_fits i)
 
--- a sum with a number of 64 bits is that of the two numbers
+-- a sum with a number of 64 bits is the sum of the two numbers
 joined : (y wide risen result : ℤ) → SFits w64 y → SFits w128 wide → SFits w128 risen → SFits w128 result → wide ≡ to_z w64 (of_z w64 y) → result ≡ to_z w128 (of_z w128 wide) +ℤ to_z w128 (of_z w128 risen) → to_z w128 (of_z w128 result) ≡ y +ℤ risen
 joined y wide risen result y_fits wide_fits risen_fits fits wide_is is =
     to_z-of_z w128 result fits ∙ is ∙ (λ i. (to_z-of_z w128 wide wide_fits ∙ wide_is ∙ to_z-of_z w64 y y_fits) i +ℤ to_z-of_z w128 risen risen_fits i)

@@ -1,4 +1,4 @@
--- A carrier that comes where one stood takes the link, and with it the chain.
+-- A carrier that comes while there is one ends the link, and with it the chain.
 use Rattle.wrp_node.proofs.Unbroken.{ServoLaws, chain_is_unbroken, chain_is_locked}
 use Rattle.wrp_node.proofs.laws.chain_is_unbroken.Goals as goal
 

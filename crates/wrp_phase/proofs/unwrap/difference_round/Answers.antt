@@ -1,4 +1,4 @@
--- The difference of two tags is that of their phases, brought round the period.
+-- The difference of two tags is the difference of their phases, brought round the period.
 use Rattle.std.proofs.Common.{◌≡◌, ℕ, pos, ◌+◌, ◌-◌, ◌*◌, ◌%◌, ◌<◌, ◌+ℤ◌, ◌-ℤ◌, ◌*ℤ◌, refl, arith}
 use Rattle.std.proofs.lemmas.Int.{ints, int_rem_euclid_is, to_z-of_z}
 use Rattle.std.specs.Int.{int_rem_euclid}

@@ -1,4 +1,4 @@
--- What was told last, with a chain.
+-- What was last given, with a chain.
 use Rattle.wrp_servo.proofs.ChainSignals.{chain_keeps_signals}
 use Rattle.wrp_servo.proofs.laws.chain_has_signals.Goals as goal
 

@@ -1,4 +1,4 @@
--- What was told last.
+-- What was last given.
 use Rattle.wrp_servo.proofs.ToldLaws.{last_told}
 use Rattle.wrp_servo.proofs.laws.told_last.Goals as goal
 

@@ -1,4 +1,4 @@
--- Each call brings one tick at the most.
+-- Each call brings at most one tick.
 use Rattle.std.proofs.Common.{◌%◌}
 use Rattle.wrp_servo.specs.Call.{CallSample, CallMeasured}
 use Rattle.wrp_tests.proofs.Ticks.{ticks-grow}

@@ -1,4 +1,4 @@
--- The answer is the four of all the calls: its tick was told, and no later four is older.
+-- The answer is the four of all the calls: its tick was given, and no later four is older.
 use Rattle.std.proofs.Common.{◌≡◌, ◌≤◌, ◌++◌, IfSome, subst, rules}
 use Rattle.wrp_exch.specs.Exchange.{four_of}
 use Rattle.wrp_exch.specs.Ticks.{NotOlder}

@@ -1,4 +1,4 @@
--- Where there is no servo, any answer of the law serves.
+-- If there is no servo, any answer of the law serves.
 use Rattle.std.proofs.Common.{rules, pos, arith}
 use Rattle.std.proofs.lemmas.Grind.{common_steps}
 use Rattle.wrp_node.proofs.control.Control.measured.Goals as goal

@@ -1,4 +1,4 @@
--- The port has its carrier, then the servo is told.
+-- The port has its carrier, then the servo is given it.
 use Rattle.std.proofs.Common.{◌∙◌, ap, ℕ, Option}
 use Rattle.wrp_node.specs.NodeStep.{handed, is_slave_port}
 use Rattle.wrp_node.specs.Telling.{step_from}

@@ -1,4 +1,4 @@
--- Everything starts anew but the counters.
+-- Everything restarts but the counters.
 use Rattle.std.proofs.Common.{refl}
 use Rattle.wrp_node.specs.NodeStep.{restarted}
 use Rattle.wrp_node.specs.Parts.{parts_reset}

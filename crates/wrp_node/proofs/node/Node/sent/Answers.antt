@@ -1,4 +1,4 @@
--- The port is told of the sending.
+-- The port is given the sending.
 use Rattle.wrp_node.specs.Telling.{step_from}
 use Rattle.wrp_node.proofs.Nodes.{inside_in, sent_told}
 use Rattle.wrp_node.proofs.node.Node.sent.Goals as goal

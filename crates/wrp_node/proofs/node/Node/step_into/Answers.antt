@@ -1,4 +1,4 @@
--- The input is taken, the servo is told of what changed, and the outputs are those of the run.
+-- The input is taken, the servo is given what changed, and the outputs are the outputs of the run.
 use Rattle.std.proofs.Common.{◌∙◌, ap, Bool, ◌∷◌}
 use Rattle.wrp_node.specs.Node.{puts_out}
 use Rattle.wrp_node.specs.NodeRun.{node_after}

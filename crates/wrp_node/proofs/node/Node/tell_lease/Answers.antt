@@ -1,4 +1,4 @@
--- The servo is told of the lease, where it changed.
+-- The servo is given the lease, if it changed.
 use Rattle.std.proofs.Common.{sym}
 use Rattle.wrp_node.proofs.Nodes.{inside_in, lease_node}
 use Rattle.wrp_node.proofs.Nothing.{lease_untold}

@@ -1,4 +1,4 @@
--- The servo is told of WR_LINK_ON, where it changed.
+-- The servo is given WR_LINK_ON, if it changed.
 use Rattle.std.proofs.Common.{sym}
 use Rattle.wrp_node.proofs.Nodes.{inside_in, link_node}
 use Rattle.wrp_node.proofs.Nothing.{link_untold}

@@ -1,4 +1,4 @@
--- Each port that is told stands for one input more.
+-- Each port that is given the input stands for one more input.
 use Rattle.wrp_node.proofs.Giving.{parts_given}
 use Rattle.wrp_node.proofs.parts.Parts.give.Goals as goal
 

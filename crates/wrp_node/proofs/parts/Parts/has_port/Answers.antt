@@ -1,4 +1,4 @@
--- A port is found exactly where its number is among them.
+-- A port is found if and only if its number is among them.
 use Rattle.std.proofs.Common.{◌≡◌, ◌∙◌, refl, sym, ap, Option, None, Some, is_some}
 use Rattle.std.specs.Option.{option_map}
 use Rattle.wrp_node.proofs.Finding.{some_is_among}

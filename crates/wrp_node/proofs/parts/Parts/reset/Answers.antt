@@ -1,4 +1,4 @@
--- Every port starts anew.
+-- Every port restarts.
 use Rattle.wrp_node.proofs.Telling.{ticks_set}
 use Rattle.wrp_node.proofs.parts.Parts.reset.Goals as goal
 

@@ -1,4 +1,4 @@
--- The octets of the message are those of the frame, which spell it.
+-- The octets of the message are the octets of the frame, which spell it.
 use Rattle.std.proofs.Common.{ℕ, List, subst}
 use Rattle.wrp_frame.specs.Grammar.{Spells}
 use Rattle.wrp_node.proofs.place.PortPlace.frame.Goals as goal

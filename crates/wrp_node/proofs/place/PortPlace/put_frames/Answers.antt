@@ -8,7 +8,7 @@ use Rattle.wrp_node.specs.Spelled.{IsSpelled}
 use Rattle.wrp_node.proofs.Lists.{all_more, pushed_more}
 use Rattle.wrp_node.proofs.place.PortPlace.put_frames.Goals as goal
 
--- the message that stands in an unused place
+-- the message at an unused place
 abbrev nothing : PtpMsg
 nothing = record {
   head = record { domain = 0; flags = 0; correction = pos 0; source = record { clock = 0; port = 0 }; seq = 0; interval = 0 };

@@ -1,4 +1,4 @@
--- The ports so far were told the input, and the others are as they were.
+-- The ports so far were given the input, and the others are as they were.
 use Rattle.wrp_node.specs.declared.ports.To.TheVariants.{Every}
 use Rattle.wrp_node.specs.Place.{GivesTo}
 use Rattle.wrp_node.proofs.Lists.{Done}

@@ -1,4 +1,4 @@
--- The port of the number is told, and no other.
+-- The port of the number is given the input, and no other.
 use Rattle.std.proofs.Common.{ap}
 use Rattle.wrp_node.specs.declared.ports.To.TheVariants.{One}
 use Rattle.wrp_node.specs.Index.{numbers_in}

@@ -1,4 +1,4 @@
--- Each number is above those before it.
+-- Each number is above the earlier ones.
 use Rattle.wrp_node_cases.proofs.Masters.{rises, no_slave}
 use Rattle.wrp_node_cases.proofs.node.sets.masters.Goals as goal
 

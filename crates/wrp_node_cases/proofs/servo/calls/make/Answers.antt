@@ -1,4 +1,4 @@
--- A sample or a measurement brings one tick at the most.
+-- A sample or a measurement brings at most one tick.
 use Rattle.wrp_servo.specs.Call.{CallSample, CallMeasured}
 use Rattle.wrp_node_cases.proofs.Ticks.{ticks-grow}
 use Rattle.wrp_node_cases.proofs.servo.calls.make.Goals as goal

@@ -1,4 +1,4 @@
--- The tag goes in front of those before.
+-- The tag goes in front of the earlier ones.
 use Rattle.std.proofs.Common.{rules}
 use Rattle.wrp_phase.proofs.UnwrapLaws.{Adds-pushed}
 use Rattle.wrp_phase.proofs.unwrap.Unwrap.push.Goals as goal

@@ -1,4 +1,4 @@
--- The error goes in front of those before, and the value is that of the drive.
+-- The error goes in front of the earlier ones, and the value is the value of the drive.
 use Rattle.std.proofs.Common.{◌≡◌, ℤ, ◌^◌, ◌≤◌, Bool, true, false, if◌then◌else◌, unsigned_abs, w64, w32, SFits, to_z, of_z, ◌∙◌, sym, ap, subst, arith}
 use Rattle.std.proofs.lemmas.Int.{ints, to_z-of_z}
 use Rattle.std.specs.Int.{saturate_unsigned, w16, w128}

@@ -1,4 +1,4 @@
--- The error goes in front of those before.
+-- The error goes in front of the earlier ones.
 use Rattle.std.proofs.Common.{◌<◌, rules, arith, subst}
 use Rattle.wrp_pi.specs.Lock.{Detector}
 use Rattle.wrp_pi.proofs.LockLaws.{Adds-updated}

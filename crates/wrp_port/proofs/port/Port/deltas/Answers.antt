@@ -1,4 +1,4 @@
--- The delays were told in this handshake.
+-- The delays were given in this handshake.
 use Rattle.std.proofs.Common.{ap, sym, subst, IfSome}
 use Rattle.wrp_link.specs.LinkAt.{new_link}
 use Rattle.wrp_link.specs.Order.{Told}

@@ -1,4 +1,4 @@
--- The input goes in front of those before.
+-- The input goes in front of the earlier ones.
 use Rattle.wrp_port.proofs.LineLaws.{Adds-after}
 use Rattle.wrp_port.proofs.port.Port.step_into.Goals as goal
 

@@ -1,4 +1,4 @@
--- TRACK may be entered exactly where the three tests hold, in their order.
+-- TRACK may be entered if and only if the three tests hold, in their order.
 use Rattle.std.proofs.Common.{◌≡◌, ℤ, ◌-◌, Bool, true, false, ◌&&◌, nat_le, to_z, of_z, SFits, rules, ap, ap₂, sym, ◌∙◌}
 use Rattle.std.proofs.lemmas.Int.{to_z-of_z}
 use Rattle.std.specs.Int.{w128}

@@ -22,7 +22,7 @@ stays lo hi v f y e = sym (ap (answered lo hi v f y) e)
 not_asked : (v : Core) (d : Deltas) → deltas_in_chain v ≡ None → deltas_in_chain v ≡ Some d → ⊥
 not_asked v d e is = cc
 
--- and no step is told
+-- and no step is commanded
 ignored : (x : ServoSetting) (v : Core) (f : Four) (before after : Option ℕ) (chain : ChainNews) (out : ServoOut) → deltas_in_chain v ≡ None → before ≡ v.first → after ≡ v.first → chain ≡ news_of before after → out ≡ plain_out (pos 0) chain None → out ≡ answer_to x v (CallMeasured f (pos 0))
 ignored x v f before after chain out e p q r s =
     s ∙ ap (λ (n : ChainNews). plain_out (pos 0) n None) (r ∙ ap₂ news_of p q)
@@ -32,14 +32,14 @@ ignored x v f before after chain out e p q r s =
 decided : (lo hi : ℤ) (v : Core) (f : Four) (y : ℤ) (d : Deltas) (b : Bool) (new : Core) → deltas_in_chain v ≡ Some d → is_in lo hi (x_of d f) ≡ b → new ≡ cond b (placed v (kept_of f d y)) (ended v) → new ≡ by_measured lo hi v f y
 decided lo hi v f y d b new e t n = n ∙ sym (ap (answered lo hi v f y) e ∙ ap (λ (c : Bool). cond c (placed v (kept_of f d y)) (ended v)) t)
 
--- and a refusal is told, where it is out of the range
+-- and it is refused, if it is out of the range
 refused : (x : ServoSetting) (v : Core) (f : Four) (d : Deltas) (before after : Option ℕ) (chain : ChainNews) (out : ServoOut) → deltas_in_chain v ≡ Some d → is_in x.lo x.hi (x_of d f) ≡ false → before ≡ v.first → after ≡ (ended v).first → chain ≡ news_of before after → out ≡ plain_out (pos 0) chain (Some 14) → out ≡ answer_to x v (CallMeasured f (pos 0))
 refused x v f d before after chain out e t p q r s =
     s ∙ ap (λ (n : ChainNews). plain_out (pos 0) n (Some 14)) (r ∙ ap₂ news_of p q)
     ∙ sym (ap (λ (o : Option Deltas). plain_out (answered_cycles x.lo x.hi v f (pos 0) o) (news_of v.first (answered x.lo x.hi v f (pos 0) o).first) (refused_by x f o)) e
     ∙ ap (λ (b : Bool). plain_out (cond b (cycles_in v (est_of v.phase.u (kept_of f d (pos 0))) v.state) (pos 0)) (news_of v.first (cond b (placed v (kept_of f d (pos 0))) (ended v)).first) (cond b None (Some 14))) t)
 
--- none was told for x
+-- nothing was returned for x
 is_out : (b : Bool) (z : ℤ) (told : Option ℤ) → told ≡ None → told ≡ cond b (Some z) None → b ≡ false
 is_out true z told e f = cc
 is_out false z told e f = refl

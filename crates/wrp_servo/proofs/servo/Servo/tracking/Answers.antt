@@ -1,4 +1,4 @@
--- TRACK stands after the list of calls exactly where looking back finds it.
+-- The state after the list of calls is TRACK if and only if looking back finds it.
 use Rattle.std.proofs.Common.{◌≡◌, ◌↔◌, Bool, true, ap, ◌∙◌, sym, arith}
 use Rattle.std.specs.Bool.{IsTrue}
 use Rattle.wrp_servo.specs.declared.machine.Core.{Core}
