@@ -20,7 +20,7 @@ last_request (_ ∷ calls) = last_request calls
 abbrev pub held_sent : Stamp → ℕ → ℤ → Sent
 held_sent t3 tick phase = record { t3 = t3.value; u3 = phase; tick = tick }
 
--- the sending given after these calls, if it belongs to the last request and its sample can be used
+-- the sending reported after these calls, if it belongs to the last request and its sample can be used
 abbrev pub usable_sent : ℕ → List Call → ℕ → Stamp → ℕ → Option Sent
 usable_sent ring calls seq t3 tick =
     option_and_then (λ id. if id == seq then option_map (held_sent t3 tick) (latched_phase ring calls t3.sample) else None) (last_request calls)
@@ -34,7 +34,7 @@ first_sent ring (CallReqOut seq ∷ calls) = None
 first_sent ring (CallReqSent seq t3 tick ∷ calls) = option_or (first_sent ring calls) (usable_sent ring calls seq t3 tick)
 first_sent ring (_ ∷ calls) = first_sent ring calls
 
--- the sending given after these calls, if it is kept
+-- the sending reported after these calls, if it is kept
 abbrev pub kept_sent : ℕ → List Call → ℕ → Stamp → ℕ → Option Sent
 kept_sent ring calls seq t3 tick = if is_some (first_sent ring calls) then None else usable_sent ring calls seq t3 tick
 

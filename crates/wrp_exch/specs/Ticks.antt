@@ -3,7 +3,7 @@ use Rattle.std.specs.Prelude.{ℕ, ◌≤◌, List, [], ◌∷◌, Option, Some,
 use Rattle.wrp_base.specs.declared.measurement.Four.{Four}
 use Rattle.wrp_exch.specs.Call.{Call, CallSync, CallReqSent}
 
--- the tick at which a Sync was handed over, or a Delay_Req's sending was given
+-- the tick at which a Sync was handed over, or a Delay_Req's sending was reported
 abbrev pub tick_of : Call → Option ℕ
 tick_of (CallSync seq correction t2 tick) = Some tick
 tick_of (CallReqSent seq t3 tick) = Some tick

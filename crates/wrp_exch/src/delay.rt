@@ -8,7 +8,7 @@ pub struct Sent {
     pub t3: Tau,
     /// The phase at the sample that the stamp latched, in tau.
     pub u3: i64,
-    /// The tick at which the sending was given.
+    /// The tick at which the sending was reported.
     pub tick: u32,
 }
 
@@ -30,7 +30,7 @@ pub struct DelayPair {
     pub t4: Tau,
     /// The phase at the sending's sample, in tau.
     pub u3: i64,
-    /// The tick at which the sending was given.
+    /// The tick at which the sending was reported.
     pub tick: u32,
 }
 
@@ -91,7 +91,7 @@ impl DelayHalf {
         }
     }
 
-    /// Takes a Delay_Resp: the request with its id, if its sending was given, makes a pair, and is no
+    /// Takes a Delay_Resp: the request with its id, if its sending was reported, makes a pair, and is no
     /// longer pending. Returns whether a pair was made.
     pub fn answer(&mut self, seq: u16, t4: Tau) -> bool
         requires old { HasDelayTimes self.old }

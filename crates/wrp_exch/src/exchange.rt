@@ -145,7 +145,7 @@ impl Exchange {
         self.delay.ask(self.first.map(|_| seq));
     }
 
-    /// Takes the stamp of a Delay_Req's sending and the tick at which the sending was given. Returns
+    /// Takes the stamp of a Delay_Req's sending and the tick at which the sending was reported. Returns
     /// whether it was kept: it is if it belongs to the last request, no sending of that request was kept
     /// before, and the stamp's sample is at or after the chain's start and is still known.
     pub fn req_sent(&mut self, seq: u16, t3: Stamp, tick: u32) -> bool

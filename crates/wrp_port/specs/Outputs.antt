@@ -85,7 +85,7 @@ abbrev pub is_newest : Option ℕ → ℕ → Bool
 is_newest None seq = false
 is_newest (Some newest) seq = newest == seq
 
--- the sending of the newest Sync, given while the port is open, makes its Follow_Up
+-- the sending of the newest Sync, reported while the port is open, makes its Follow_Up
 abbrev pub follow_ups : Setting → Rest → ℕ → Stamp → List PtpMsg
 follow_ups set line seq stamp =
     where_due (is_newest line.ids.newest_sync seq && is_open line.link) (follow_up_of set seq stamp)

@@ -110,7 +110,7 @@ fn followed(ring: usize, calls: &[Call], seq: u16, precise: i64) -> Option<Down>
     Some(Down { t1, t2, u2, tick })
 }
 
-// The sending given after these calls, if it belongs to the last request: t3, phase, tick.
+// The sending reported after these calls, if it belongs to the last request: t3, phase, tick.
 fn told(ring: usize, calls: &[Call], seq: u16, sample: u32) -> Option<i64> {
     let (start, _) = chain(calls)?;
     let mut last = None;
