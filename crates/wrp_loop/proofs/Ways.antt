@@ -20,8 +20,8 @@ use Rattle.wrp_node.specs.declared.interface.NodeSet.{NodeSet}
 use Rattle.wrp_node.specs.NodeAt.{port_of}
 use Rattle.wrp_node.specs.Set.{identity_of}
 use Rattle.wrp_plant.proofs.KeptFrames.{kept_on_fibre}
-use Rattle.wrp_plant.proofs.TriedOctets.{peer_told}
-use Rattle.wrp_plant.specs.Tried.{identity_at}
+use Rattle.wrp_premises.proofs.TriedOctets.{peer_told}
+use Rattle.wrp_premises.specs.Tried.{identity_at}
 use Rattle.wrp_course.specs.declared.clocks.ClockState.{ClockState}
 use Rattle.wrp_course.specs.declared.place.Place.{Place}
 use Rattle.wrp_course.specs.Runs.{IsNetwork}

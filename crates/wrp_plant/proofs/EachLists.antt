@@ -1,5 +1,5 @@
 -- What holds of each place of a list.
-use Rattle.std.proofs.Common.{◌≡◌, refl, subst, ℕ, zero, suc, ◌+◌, ◌<◌, List, [], ◌∷◌, ◌++◌, length, Some, slice_get, arith}
+use Rattle.std.proofs.Common.{◌≡◌, refl, subst, ℕ, zero, suc, ◌+◌, ◌<◌, ◌==◌, List, [], ◌∷◌, ◌++◌, length, Some, slice_get, arith}
 use Rattle.std.proofs.lemmas.Option.{none-some, same_Some}
 use Rattle.wrp_plant.specs.Plant.{Each}
 
@@ -25,3 +25,7 @@ pub at_place : {A : Type 0} (xs : List A) (n : ℕ) (x : A) → slice_get xs n �
 at_place [] n x e = absurd (none-some x e)
 at_place (z ∷ xs) zero x e = omega arith
 at_place (z ∷ xs) (suc n) x e = let h : n < length xs = at_place xs n x e in omega (arith, h)
+
+-- the numbers of two places are compared
+pub turned_about : (a b : ℕ) → (a == b) ≡ (b == a)
+turned_about a b = grind arith

@@ -23,7 +23,7 @@ use Rattle.wrp_plant.specs.Plant.{FitsPlant, PlantIs}
 use Rattle.wrp_plant.specs.PutOut.{first_put_out, is_now, puts_out_at}
 use Rattle.wrp_course.proofs.PortNumbers.{has-place}
 use Rattle.wrp_course.proofs.RunNetwork.{LinkEnd, are_apart, end_with, link_end, place_end}
-use Rattle.wrp_plant.proofs.Carriers.{own_port}
+use Rattle.wrp_plant.proofs.OwnPorts.{own_port}
 use Rattle.wrp_plant.proofs.PutOuts.{place_within}
 
 no_both : (b : Bool) → b ≡ true → b ≡ false → ⊥

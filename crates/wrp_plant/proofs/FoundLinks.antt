@@ -1,5 +1,5 @@
 -- Where an element passes a test, one is found.
-use Rattle.std.proofs.Common.{◌≡◌, refl, ap, sym, ℕ, zero, suc, Bool, true, false, List, [], ◌∷◌, Option, None, Some, slice_get, if◌then◌else◌, true≢false}
+use Rattle.std.proofs.Common.{◌≡◌, refl, ap, sym, ℕ, zero, suc, Bool, true, false, List, [], ◌∷◌, Option, Some, slice_get, if◌then◌else◌, true≢false}
 use Rattle.std.specs.List.{find}
 use Rattle.std.specs.Option.{is_some, option_map_or}
 

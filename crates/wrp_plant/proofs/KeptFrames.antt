@@ -1,5 +1,5 @@
 -- What is told of a frame that is kept, and how many are, by the frames that the code has.
-use Rattle.std.proofs.Common.{◌≡◌, ◌∙◌, refl, ap, ap₂, sym, subst, ◌||◌, ℕ, zero, suc, ◌+◌, ℤ, pos, ◌-ℤ◌, Bool, true, false, cond, if◌then◌else◌, List, [], ◌∷◌, length, Option, None, Some, option_map, option_and_then, count_by, arith}
+use Rattle.std.proofs.Common.{◌≡◌, ◌∙◌, refl, ap, ap₂, sym, subst, ◌||◌, ℕ, zero, suc, ◌+◌, ℤ, pos, ◌-ℤ◌, Bool, true, false, cond, if◌then◌else◌, List, [], ◌∷◌, length, Option, None, Some, option_map, option_and_then, count_by, arith, not}
 use Rattle.std.proofs.lemmas.Int.{ints}
 use Rattle.std.proofs.lemmas.List.Sums.{sum_by-cons}
 use Rattle.std.specs.Int.Signed.{le_z}
@@ -11,13 +11,14 @@ use Rattle.wrp_bounds.specs.Times.{frame_life}
 use Rattle.wrp_course.specs.declared.place.Place.{Place}
 use Rattle.wrp_flights.specs.declared.departed.Departed.{Departed}
 use Rattle.wrp_flights.specs.Frames.{FramesAt, at, numbers_from}
-use Rattle.wrp_plant.specs.Flights.{end_to}
-use Rattle.wrp_plant.specs.Plant.{MaybeIs, DepartedIs, FramesAre, is_kept_since, kept_since}
+use Rattle.wrp_plant.specs.Plant.{end_to, MaybeIs, DepartedIs, FramesAre, is_kept_since, kept_since}
 use Rattle.wrp_course.specs.Setting.{Setting, end_at, from_on}
 use Rattle.wrp_course.specs.Views.{is_kept, kept_count, kept_frame, sender_of}
 use Rattle.wrp_course.specs.WorldAt.{WorldAt, FrameAt, is_on_fibre}
 use Rattle.wrp_plant.proofs.FoundFrames.{Found, found, missing}
-use Rattle.wrp_plant.proofs.FramesTurned.{since_none, since_some}
+use Rattle.wrp_plant.proofs.KeptSince.{since_none, since_some, none_kept}
+use Rattle.std.proofs.lemmas.Bool.{true≢false}
+use Rattle.wrp_course.specs.Premises.{too_old}
 
 -- a frame on a fibre is kept
 on_kept : (s : Setting) (w : WorldAt) (o : Option FrameAt) → is_on_fibre o ≡ true → (if is_kept s w o then o else None) ≡ o
@@ -105,3 +106,25 @@ count_told s w frames n h e =
     ∙ counted_alike (λ k. is_some (at k frames.kept)) (λ i. is_kept s w (w.frame i)) (from_on w.departed 1) (λ i.
     some_alike (kept_since frames.horizon (w.frame i)) (at i frames.kept) (h.each i) ∙ since_told frames.horizon (w.frame i)
     ∙ sym (kept_since_is s w frames.horizon (w.frame i) h.horizon))
+
+-- A frame that is young
+
+not_false : (b : Bool) → not b ≡ false → b ≡ true
+not_false true e = refl
+not_false false e = absurd (true≢false e)
+
+pub young_since_holds : (s : Setting) (w : WorldAt) (h : ℤ) (f : FrameAt) → h ≡ w.time -ℤ pos (frame_life s.cfg) → (too_old s.cfg w.time f.sending).fails ≡ false → le_z h f.sending.at ≡ true
+young_since_holds s w h f e holds =
+    sym (same_age w.time f.sending.at (pos (frame_life s.cfg)) h e) ∙ not_false (le_z (w.time -ℤ f.sending.at) (pos (frame_life s.cfg))) holds
+
+no_young : (on young : Bool) → (on || young) ≡ false → young ≡ true → ⊥
+no_young true young e f = absurd (true≢false e)
+no_young false young e f = absurd (true≢false (sym f ∙ e))
+
+-- it is kept
+pub not_kept : (s : Setting) (w : WorldAt) (n : ℕ) (frames : FramesAt) (f : FrameAt) → FramesAre s w frames → at n frames.kept ≡ None → w.frame n ≡ Some f →
+    le_z frames.horizon f.sending.at ≡ true → ⊥
+not_kept s w n frames f h e k young =
+    let none : is_kept_since frames.horizon (Some f) ≡ false =
+    none_kept frames.horizon f (at n frames.kept) (subst (λ o. MaybeIs DepartedIs (kept_since frames.horizon o) (at n frames.kept)) k (h.each n)) e in
+    no_young (is_on_fibre (Some f)) (le_z frames.horizon f.sending.at) none young

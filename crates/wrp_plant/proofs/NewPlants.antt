@@ -14,14 +14,14 @@ use Rattle.wrp_plant.specs.declared.ends.PutOut.{PutOut}
 use Rattle.wrp_plant.specs.declared.ends.Span.{Span}
 use Rattle.wrp_course.specs.declared.fibres.FibreState.{FibreState}
 use Rattle.wrp_plant.specs.declared.plant.Plant.{Plant}
-use Rattle.wrp_plant.specs.EndRoom.{PutBy, SpanPutBy}
+use Rattle.wrp_plant.specs.EndRoom.{PutBy, SpanPutBy, HasEndRoom, HasSpanRoom}
 use Rattle.wrp_plant.specs.New.{IsNewEnd, IsNewSpan, IsSpanOf, new_clock}
-use Rattle.wrp_plant.specs.Plant.{Each, EndIs, SpanIs, FitsClock, FitsSpan, FitsFrames, FramesAre, PlantIs}
+use Rattle.wrp_plant.specs.Plant.{Each, EndIs, SpanIs, FitsClock, FitsSpan, FitsFrames, FramesAre, PlantIs, PutOutIs}
 use Rattle.wrp_course.specs.Setting.{Setting, start_of, entry_at}
 use Rattle.wrp_plant.specs.Sizes.{IsTimeBy, IsDelayBy, IsHorizonBy}
 use Rattle.wrp_course.specs.WorldAt.{new_world, new_end, named_at}
 use Rattle.wrp_plant.proofs.EachLists.{at_place, each_none}
-use Rattle.wrp_plant.proofs.Moving.{emptied_list}
+use Rattle.std.specs.List.{AllZip}
 
 -- what the code made of a network
 pub record IsNewPlant (s : Setting) (plant : Plant) : Type 0 where
@@ -33,6 +33,9 @@ pub record IsNewPlant (s : Setting) (plant : Plant) : Type 0 where
   pub span_count : length plant.spans.items ≡ length s.cfg.links.items
   pub spans : Each (IsSpanOf s.db s.cfg.links.items) plant.spans.items
   pub frames : plant.frames ≡ record { horizon = start_of s -ℤ pos (frame_life s.cfg); sent = []; kept = [] }
+
+pub emptied_list : (ys : List PutOut) → ys ≡ [] → AllZip PutOutIs [] ys
+emptied_list ys e = subst (AllZip PutOutIs []) (sym e) tt
 
 end_is : (name : List ℕ) (entry : Option Module) (end : EndState) → IsNewEnd name entry end → EndIs (new_end name entry) end
 end_is name entry end h = record {
@@ -126,3 +129,9 @@ frames_fit links horizon frames e h = subst (FitsFrames links 0) (sym e) (record
   sent = λ i t g. no_time 0 i t g;
   each = λ i d g. absurd (none-some d g);
 })
+
+end_room : (end : EndState) → HasEndRoom 0 end
+end_room end = record { waiting = omega (arith, end.waiting.ok.1); marks = omega (arith, end.marks.ok.1) }
+
+pub no_steps : (steps : ℕ) (spans : List Span) → steps ≡ 0 → Each (λ i. HasSpanRoom steps) spans
+no_steps steps spans e n span at = subst (λ k. HasSpanRoom k span) (sym e) (record { master = end_room span.master; slave = end_room span.slave })

@@ -10,7 +10,7 @@ use Rattle.wrp_course.specs.Views.{IsNextArrival, IsNoSooner}
 use Rattle.wrp_course.specs.WorldAt.{WorldAt, FrameAt, is_on_fibre}
 use Rattle.wrp_plant.specs.Plant.{MaybeIs, DepartedIs, FramesAre, kept_since}
 use Rattle.wrp_plant.proofs.FoundFrames.{Found}
-use Rattle.wrp_plant.proofs.FramesTurned.{KeptFor, found_kept, kept_for, on_alike, on_since}
+use Rattle.wrp_plant.proofs.KeptSince.{KeptFor, found_kept, kept_for, on_alike, on_since}
 
 -- a frame of the state that is on a fibre is kept
 kept_on : (h : ℤ) (o : Option FrameAt) (q : Option Departed) (f : FrameAt) → MaybeIs DepartedIs (kept_since h o) q → o ≡ Some f → is_on_fibre (Some f) ≡ true → KeptFor q f

@@ -1,5 +1,5 @@
 -- The link above a node that stands at a place of its own: no other stands above it.
-use Rattle.std.proofs.Common.{◌≡◌, ◌∙◌, refl, sym, ap, ℕ, ◌<◌, ◌==◌, true, false, List, length, Option, None, Some, slice_get, true≢false}
+use Rattle.std.proofs.Common.{◌≡◌, ◌∙◌, refl, sym, ℕ, ◌<◌, ◌==◌, true, false, List, length, Option, None, Some, slice_get, true≢false}
 use Rattle.std.proofs.lemmas.Bool.{eqb-true}
 use Rattle.std.specs.List.{position}
 use Rattle.std.specs.Option.{option_map_or}

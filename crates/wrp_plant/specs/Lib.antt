@@ -1,16 +1,6 @@
-pub mod Begins
-pub mod Changes
 pub mod EndRoom
 pub mod FirstPort
-pub mod FitsGifts
-pub mod Flights
-pub mod Gifts
-pub mod Giving
-pub mod Moves
 pub mod New
 pub mod Plant
-pub mod PlantTold
 pub mod PutOut
-pub mod Room
 pub mod Sizes
-pub mod Tried

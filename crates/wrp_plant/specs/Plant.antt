@@ -21,6 +21,11 @@ use Rattle.wrp_plant.specs.EndRoom.{HasSpanRoom, SpanPutBy}
 use Rattle.wrp_course.specs.Setting.{Setting}
 use Rattle.wrp_plant.specs.Sizes.{IsTimeBy, IsHorizonBy, IsOffBy, IsDelayBy, IsDueBy}
 use Rattle.wrp_course.specs.WorldAt.{WorldAt, EndAt, FrameAt, Arrival, Sending, is_on_fibre}
+use Rattle.wrp_plant.specs.declared.ends.Delays.{Delays}
+use Rattle.wrp_course.specs.declared.fibres.FibreState.{FibreState}
+use Rattle.wrp_course.specs.declared.place.Place.{Place}
+use Rattle.wrp_course.specs.Moved.{move_of}
+use Rattle.wrp_base.specs.Link.{other_of}
 
 -- Lists that stand for functions of numbers
 
@@ -55,6 +60,15 @@ down_in span = (pos span.master.tx +ℤ span.fibre.ms) +ℤ pos span.slave.rx
 abbrev pub up_in : Span → ℤ
 up_in span = (pos span.slave.tx +ℤ span.fibre.sm) +ℤ pos span.master.rx
 
+-- the true delays of the module in place at an end
+abbrev pub delays_in : EndState → Delays
+delays_in end = record { tx = end.tx; rx = end.rx }
+
+-- a fibre whose delays moved
+abbrev pub moved_fibre : List (ℤ × ℤ) → ℕ → FibreState → FibreState
+moved_fibre moves k fibre =
+    record fibre { ms = fibre.ms +ℤ (move_of moves k).0; sm = fibre.sm +ℤ (move_of moves k).1 }
+
 pub record SpanIs (w : WorldAt) (k : ℕ) (span : Span) : Type 0 where
   pub fibre : span.fibre ≡ w.fibre k
   pub master : EndIs (w.end_at k Master) span.master
@@ -79,6 +93,10 @@ pub record DepartedIs (f : FrameAt) (d : Departed) : Type 0 where
   pub due : d.due ≡ f.due
   pub arrival : MaybeIs ReceptionIs f.arrival d.arrival
   pub gone : d.gone ≡ f.gone
+
+-- the end that a frame comes to
+abbrev pub end_to : FrameAt → Place
+end_to f = record { link = f.link; role = other_of f.by }
 
 -- a frame of the state that is on a fibre, or was put out at this time or later
 abbrev pub is_kept_since : (horizon : ℤ) → Option FrameAt → Bool

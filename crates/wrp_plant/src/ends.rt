@@ -1,8 +1,7 @@
 //! The ends of the links of a world.
 ghost use Rattle.std.specs.Prelude.{◌≡◌, ◌≤◌, ◌≤ℤ◌, ◌+◌, ◌+ℤ◌, ◌^◌, pos, unsigned_abs};
-ghost use Rattle.wrp_plant.specs.Plant.{EndIs, end_in, down_in, up_in};
+ghost use Rattle.wrp_plant.specs.Plant.{EndIs, delays_in, end_in, down_in, up_in};
 ghost use Rattle.wrp_plant.specs.Sizes.{IsDelay, IsTime};
-ghost use Rattle.wrp_plant.specs.Tried.{delays_in};
 ghost use Rattle.wrp_course.specs.Views.{oldest_of};
 ghost use Rattle.wrp_course.specs.WorldAt.{EndAt};
 

@@ -1,15 +1,16 @@
 //! All of a world but its nodes, as the code keeps it: true time, clocks, fibres, ends of links and frames in
-//! flight; which premise an event breaks, what an event changes of them by itself, and which inputs it gives the
-//! nodes (this project's profile).
+//! flight, and what is asked of them (this project's profile).
 #![tactic(auto)]
 
-mod checks;
 mod ends;
+mod fibres;
 mod plant;
-mod premises;
+mod swaps;
+mod times;
 
-pub use checks::{longest_tick, shortest_tick};
+pub use ends::{Delays, EndState, PutOut, Span, with_ports};
+pub use fibres::{down_at, move_by, moved, up_at};
 pub use plant::Plant;
 pub use plant::new::start_of;
-pub use plant::told::News;
-pub use premises::rates::rate_kept;
+pub use swaps::swap_for;
+pub use times::{frame_life, longest_tick, reach, shortest_tick};

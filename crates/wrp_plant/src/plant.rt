@@ -1,15 +1,11 @@
 //! All of a world but its nodes: true time, clocks, fibres, ends of links and frames in flight.
-mod begin;
-mod change;
-mod giving;
-mod handing;
-pub mod moves;
+mod carriers;
+mod clocks;
+mod links;
 pub mod new;
 mod parts;
 mod putting;
-mod room;
-pub mod told;
-mod tries;
+mod tops;
 mod views;
 
 use crate::ends::Span;

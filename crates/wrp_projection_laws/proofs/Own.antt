@@ -28,7 +28,7 @@ use Rattle.wrp_trace.specs.Printing.{line_of}
 use Rattle.wrp_trace.specs.LineSetting.{LineSetting, line_setting_in}
 use Rattle.wrp_course.specs.declared.event.Event.{Event}
 use Rattle.wrp_course.specs.declared.event.Event.TheVariants.{Pass, Tick, Sample, Depart, Arrive, Deliver, Noise, Down, Up, Cut, Join}
-use Rattle.wrp_plant.proofs.Departing.{turned_about}
+use Rattle.wrp_plant.proofs.EachLists.{turned_about}
 use Rattle.wrp_course.specs.Given.{Given, NodeStepAt, at_ports, comes_from, delivered, delivered_by, delivered_to, given_by, gives, gives_all, goes_from, node_step_of, sent_oldest, step_of, steps_of, taken_of, told_sending}
 use Rattle.wrp_course.specs.Moved.{moved, waiting_at}
 use Rattle.wrp_course.specs.Run.{Happened, steps_at, world_after}

@@ -16,7 +16,7 @@ use Rattle.wrp_course.specs.Setting.{Setting, end_at, end_of, place_among, place
 use Rattle.wrp_world.specs.StandsFor.{IsValid, StandsFor, WorldOf}
 use Rattle.wrp_course.specs.Views.{IsNextArrival, kept_frame}
 use Rattle.wrp_course.specs.WorldAt.{WorldAt, FrameAt, is_on_fibre}
-use Rattle.wrp_plant.specs.Flights.{end_to}
+use Rattle.wrp_plant.specs.Plant.{end_to}
 use Rattle.wrp_plant.proofs.KeptFrames.{kept_on_fibre}
 use Rattle.wrp_course.proofs.RunNetwork.{LinkEnd as EndThere, are_apart, link_end, place_end}
 use Rattle.wrp_sim.specs.Rules.{raw_of, raw_to}

@@ -8,7 +8,7 @@ use Rattle.wrp_caldb.specs.declared.database.Entry.{Entry}
 use Rattle.wrp_caldb.specs.Name.{same_name}
 use Rattle.wrp_config.specs.Accepted.{all_delays, greatest}
 use Rattle.wrp_node.proofs.Lists.{all_of}
-use Rattle.wrp_plant.proofs.TriedModules.{found_case, mapped_holds, then_holds}
+use Rattle.wrp_plant.proofs.ListedModules.{found_case, mapped_holds, then_holds}
 
 -- the greatest of some numbers
 

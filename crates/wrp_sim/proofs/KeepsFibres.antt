@@ -21,7 +21,7 @@ use Rattle.wrp_stamp.specs.Merge.{transition_of}
 use Rattle.wrp_course.specs.Runs.{IsNetwork}
 use Rattle.wrp_course.specs.Setting.{Setting, link_of, sends_nm}
 use Rattle.wrp_course.specs.WorldAt.{WorldAt, delay_from, first_name}
-use Rattle.wrp_plant.proofs.TriedModules.{module_has}
+use Rattle.wrp_plant.proofs.ListedModules.{module_has}
 use Rattle.wrp_sim.specs.Rules.{first_entry}
 use Rattle.wrp_scene.specs.Scenario.{IsSceneOf, IsSum, SceneAt, fibre_room, kappa_of, ms_of, sm_of, sum_of}
 use Rattle.wrp_sim.proofs.KeepsEntries.{module_small}

@@ -14,17 +14,17 @@ use Rattle.wrp_node.specs.StepLaws.{is_frame}
 use Rattle.wrp_plant.specs.declared.ends.EndState.{EndState}
 use Rattle.wrp_course.specs.declared.node_out.NodeOut.{NodeOut}
 use Rattle.wrp_plant.specs.declared.plant.Plant.{Plant}
-use Rattle.wrp_plant.specs.FitsGifts.{FitsGift}
-use Rattle.wrp_plant.specs.Gifts.{GiftIs}
+use Rattle.wrp_changes.specs.FitsGifts.{FitsGift}
+use Rattle.wrp_changes.specs.Gifts.{GiftIs}
 use Rattle.wrp_course.specs.Given.{Given, NodeStepAt, gives, gives_all, node_step_of, steps_of}
 use Rattle.wrp_plant.specs.EndRoom.{HasEndRoom, HasSpanRoom}
-use Rattle.wrp_plant.specs.Room.{HasRoom}
+use Rattle.wrp_changes.specs.Room.{HasRoom}
 use Rattle.wrp_course.specs.Setting.{Setting}
 use Rattle.wrp_world.specs.StandsFor.{IsValid, StandsFor, WorldOf}
 use Rattle.wrp_world.specs.Step.{step_seen}
 use Rattle.wrp_world.specs.Taking.{AreOfNodes, Asks, FirstAsks, Gave, GaveAll, Gives, is_plain, laws_of}
 use Rattle.wrp_course.specs.WorldAt.{WorldAt}
-use Rattle.wrp_plant.proofs.Turned.{length_put, put_else}
+use Rattle.wrp_changes.proofs.Turned.{length_put, put_else}
 
 -- Lists, as far as a loop has come to them
 

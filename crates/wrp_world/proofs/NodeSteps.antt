@@ -40,11 +40,11 @@ use Rattle.wrp_node.proofs.StepLaws.{commands_are_held, only_frames_say, sends_a
 use Rattle.wrp_node.proofs.Indexing.{eq_is}
 use Rattle.wrp_node.proofs.OneRun.{ok_of}
 use Rattle.wrp_course.specs.declared.node_out.NodeOut.{NodeOut}
-use Rattle.wrp_plant.specs.declared.plant.told.News.{News}
-use Rattle.wrp_plant.specs.Gifts.{IsRead}
+use Rattle.wrp_changes.specs.declared.telling.News.{News}
+use Rattle.wrp_changes.specs.Gifts.{IsRead}
 use Rattle.wrp_course.specs.Given.{Given, mover_of, step_of, taken_of}
 use Rattle.wrp_world.specs.Taking.{Asks, IsNewsOf}
-use Rattle.wrp_plant.specs.PlantTold.{IsPortOf, IsSent, IsStepOf, MayStep, NoneStepped, SendsFew, cycles_in}
+use Rattle.wrp_changes.specs.PlantTold.{IsPortOf, IsSent, IsStepOf, MayStep, NoneStepped, SendsFew, cycles_in}
 use Rattle.wrp_course.specs.Setting.{Setting, end_at, end_of, node_setting_of}
 use Rattle.wrp_world.specs.StandsFor.{WorldOf}
 use Rattle.wrp_course.specs.WorldAt.{WorldAt}

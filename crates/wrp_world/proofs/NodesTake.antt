@@ -22,13 +22,13 @@ use Rattle.std.specs.List.{list_any}
 use Rattle.std.proofs.lemmas.Bool.{eqb-true}
 use Rattle.wrp_course.specs.declared.node_out.NodeOut.{NodeOut}
 use Rattle.wrp_plant.specs.declared.plant.Plant.{Plant}
-use Rattle.wrp_plant.specs.declared.plant.told.News.{News}
-use Rattle.wrp_plant.specs.FitsGifts.{FitsGift, FitsNode}
+use Rattle.wrp_changes.specs.declared.telling.News.{News}
+use Rattle.wrp_changes.specs.FitsGifts.{FitsGift, FitsNode}
 use Rattle.wrp_course.specs.Setting.{has_port}
-use Rattle.wrp_plant.specs.Gifts.{GiftIs}
+use Rattle.wrp_changes.specs.Gifts.{GiftIs}
 use Rattle.wrp_course.specs.Given.{Given, NodeStepAt, gives, node_step_of, step_of, stepped_by, taken_of}
 use Rattle.wrp_plant.specs.Plant.{Each, FitsPlant, PlantIs}
-use Rattle.wrp_plant.specs.PlantTold.{IsStepOf, MayStep, SendsFew}
+use Rattle.wrp_changes.specs.PlantTold.{IsStepOf, MayStep, SendsFew}
 use Rattle.wrp_course.specs.Setting.{Setting, node_setting_of}
 use Rattle.wrp_world.specs.StandsFor.{IsValid, NodeIs, StandsFor, WorldOf}
 use Rattle.wrp_world.specs.Step.{step_seen}
@@ -36,7 +36,7 @@ use Rattle.wrp_world.specs.Taking.{Asks, Gave, IsNewsOf, laws_of}
 use Rattle.wrp_course.specs.WorldAt.{WorldAt}
 use Rattle.wrp_world.proofs.Inside.{world_of}
 use Rattle.wrp_world.proofs.NodeSteps.{NodeStepped, SteppedAt, is_step_of, may_step, node_stepped, read_is_said, said_is_read, sends_few, ticks_told, took}
-use Rattle.wrp_plant.proofs.Turned.{length_put, put_else, put_here}
+use Rattle.wrp_changes.proofs.Turned.{length_put, put_else, put_here}
 use Rattle.wrp_course.proofs.LinkPorts.{other_number}
 
 -- What was done: a node of the world took the input, and this is told of it

@@ -14,8 +14,8 @@ use Rattle.wrp_course.specs.Runs.{IsNetwork}
 use Rattle.wrp_course.specs.Setting.{Setting, node_setting_of}
 use Rattle.wrp_course.specs.WorldAt.{WorldAt}
 use Rattle.wrp_node.specs.NodeAt.{locked_of, servo_at, slave_of, state_of}
-use Rattle.wrp_plant.specs.Tried.{kept_rate, steered_rate}
-use Rattle.wrp_plant.proofs.TriedRates.{rate_told}
+use Rattle.wrp_premises.specs.Tried.{kept_rate, steered_rate}
+use Rattle.wrp_premises.proofs.TriedRates.{rate_told}
 use Rattle.wrp_bound_laws.proofs.Motion.Moving.{no_slave}
 use Rattle.wrp_world.specs.StandsFor.{IsValid, StandsFor, WorldOf}
 

@@ -18,8 +18,8 @@ use Rattle.wrp_frame.specs.declared.fault.FrameFault.{FrameFault}
 use Rattle.wrp_node.specs.declared.interface.Input.TheVariants.{Carrier}
 use Rattle.wrp_node.specs.NodeAt.{numbers_of}
 use Rattle.wrp_node.specs.StandsFor.{NodeOf}
-use Rattle.wrp_plant.specs.Begins.{ListsGifts, MovesBy, StaysAsWas}
-use Rattle.wrp_plant.specs.Changes.{MayMove, MayStepAfter}
+use Rattle.wrp_changes.specs.Begins.{ListsGifts, MovesBy, StaysAsWas}
+use Rattle.wrp_changes.specs.Changes.{MayMove, MayStepAfter}
 use Rattle.wrp_course.specs.Checks.{AllHold, Check, breach_of, first_broken, told_of}
 use Rattle.wrp_course.specs.declared.breach.Breach.{Breach}
 use Rattle.wrp_course.specs.declared.event.Event.{Event}
@@ -29,11 +29,11 @@ use Rattle.wrp_course.specs.declared.place.Place.{Place}
 use Rattle.wrp_plant.specs.declared.plant.Plant.{Plant}
 use Rattle.wrp_world.specs.declared.outcome.Refused.{Refused}
 use Rattle.wrp_world.specs.declared.outcome.Refused.TheVariants.{Broken, Memory}
-use Rattle.wrp_plant.specs.Gifts.{AreGifts, GiftIs}
+use Rattle.wrp_changes.specs.Gifts.{AreGifts, GiftIs}
 use Rattle.wrp_course.specs.Given.{Given, comes_at, comes_from, delivered, delivered_by, delivered_to, given_by, given_plain, goes_at, goes_from, if_carried, sent_oldest, told_sending}
 use Rattle.wrp_course.specs.Moved.{moved, waiting_at}
 use Rattle.wrp_plant.specs.Plant.{Each, FitsPlant}
-use Rattle.wrp_plant.specs.PlantTold.{NoneStepped}
+use Rattle.wrp_changes.specs.PlantTold.{NoneStepped}
 use Rattle.wrp_course.specs.Premises.{Accepts, arrive_checks, checks_of}
 use Rattle.wrp_course.specs.Run.{IsSaid}
 use Rattle.wrp_course.specs.Setting.{Setting, end_at, entry_at, place_of}

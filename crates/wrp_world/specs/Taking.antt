@@ -14,11 +14,11 @@ use Rattle.wrp_node.specs.StandsFor.{NodeOf}
 use Rattle.wrp_node.specs.States.{state_at, state_in}
 use Rattle.wrp_node.specs.StepLaws.{is_frame}
 use Rattle.wrp_course.specs.declared.node_out.NodeOut.{NodeOut}
-use Rattle.wrp_plant.specs.declared.plant.told.News.{News}
-use Rattle.wrp_plant.specs.Gifts.{GiftIs, IsRead}
+use Rattle.wrp_changes.specs.declared.telling.News.{News}
+use Rattle.wrp_changes.specs.Gifts.{GiftIs, IsRead}
 use Rattle.wrp_course.specs.Given.{Given, gives, gives_all, mover_of, node_step_of, steps_of}
 use Rattle.wrp_plant.specs.Plant.{Each}
-use Rattle.wrp_plant.specs.PlantTold.{NoneStepped}
+use Rattle.wrp_changes.specs.PlantTold.{NoneStepped}
 use Rattle.wrp_course.specs.Setting.{Setting}
 use Rattle.wrp_world.specs.StandsFor.{StandsFor, WorldOf}
 use Rattle.wrp_world.specs.Step.{step_seen}

@@ -12,8 +12,8 @@ ghost use Rattle.wrp_plant.specs.Sizes.{IsHorizonBy, IsTimeBy};
 ghost use Rattle.wrp_course.specs.WorldAt.{new_world};
 
 use super::Plant;
-use crate::checks::frame_life as life;
 use crate::ends::{EndState, Span};
+use crate::times::frame_life as life;
 use std::alloc::{AllocError, Global};
 use wrp_base::{Module, Tau, difference, product};
 use wrp_caldb::CalDb;

@@ -1,15 +1,17 @@
 //! What is asked of a plant.
-ghost use Rattle.std.specs.Prelude.{◌≡◌, ◌<◌, length, option_map, IfSome};
+ghost use Rattle.std.specs.Prelude.{◌≡◌, ◌<◌, length, option_map, slice_get, IfSome};
 ghost use Rattle.wrp_base.specs.Clock.{steps_of_period};
 ghost use Rattle.wrp_base.specs.Link.{other_of};
-ghost use Rattle.wrp_plant.specs.Flights.{end_to};
-ghost use Rattle.wrp_plant.specs.Plant.{DepartedIs, FitsPlant, MaybeIs, PlantIs};
+ghost use Rattle.wrp_plant.specs.Plant.{DepartedIs, FitsPlant, MaybeIs, PlantIs, end_to};
+ghost use Rattle.wrp_plant.specs.Sizes.{IsTime};
 ghost use Rattle.wrp_course.specs.Setting.{Setting, end_at, end_of, entry_at, place_of};
+ghost use Rattle.wrp_course.specs.Views.{oldest_of};
 ghost use Rattle.wrp_course.specs.Views as view;
 ghost use Rattle.wrp_course.specs.WorldAt.{WorldAt, first_name, named_at};
 
 use super::Plant;
-use crate::checks::{longest_tick, shortest_tick};
+use crate::ends::PutOut;
+use crate::times::{longest_tick, shortest_tick};
 use wrp_base::{Mark, Module, Role, Tau, sum};
 use wrp_course::{Place, place_of};
 use wrp_flights::Departed;
@@ -66,6 +68,18 @@ impl Plant {
             Some(place) => self.end(place).oldest(),
             None => None,
         }
+    }
+
+    /// When the oldest frame that waits at an end was put out. `None` exactly where none waits.
+    pub fn oldest_at(&self, place: Place) -> Option<Tau>
+        requires fits { FitsPlant self.now }
+        requires link { place.link < length self.now.net.cfg.links.items }
+        ensures value { (s : Setting) (w : WorldAt) → PlantIs s w self.now
+            → result ≡ oldest_of (w.end_at place.link place.role).waiting }
+        ensures size { IfSome result IsTime }
+    {
+        let span = self.span(place.link);
+        first_put_out(span.end(place.role).waiting.as_slice())
     }
 
     /// The frame on a fibre that is due first, with that time; the least number among equals. `None`
@@ -149,6 +163,16 @@ impl Plant {
             Some(link) => Some(port_of(link, role)),
             None => None,
         }
+    }
+}
+
+// When the first of these was put out.
+fn first_put_out(waiting: &[PutOut]) -> Option<Tau>
+    ensures { result ≡ option_map (λ out. out.at) (slice_get waiting.now 0) }
+{
+    match waiting.first() {
+        Some(out) => Some(out.at),
+        None => None,
     }
 }
 

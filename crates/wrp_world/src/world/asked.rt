@@ -4,7 +4,7 @@ ghost use Rattle.wrp_base.specs.Clock.{steps_of_period};
 ghost use Rattle.wrp_base.specs.declared.link.Role.TheVariants.{Master, Slave};
 ghost use Rattle.wrp_network.specs.Network.{HasLinkRanges, HasNodeRanges};
 ghost use Rattle.wrp_node.specs.NodeAt.{dac_of};
-ghost use Rattle.wrp_plant.specs.Flights.{end_to};
+ghost use Rattle.wrp_plant.specs.Plant.{end_to};
 ghost use Rattle.wrp_plant.specs.PutOut.{NoneIsPutOut, first_put_out, puts_out, puts_out_at};
 ghost use Rattle.wrp_course.specs.Setting.{Setting, above, end_at, entry_at, node_setting_of, place_of as place_in};
 ghost use Rattle.wrp_course.specs.Views as view;

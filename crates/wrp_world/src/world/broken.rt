@@ -5,6 +5,10 @@ ghost use Rattle.wrp_world.specs.Step.{TellsBreach};
 
 use super::World;
 use wrp_course::{Breach, Event};
+use wrp_premises::{
+    arrive_broken, cut_broken, deliver_broken, depart_broken, down_broken, join_broken, noise_broken,
+    sample_broken, tick_broken, up_broken,
+};
 
 impl<F: Fn(i64) -> i64> World<F> {
     /// The first comparison that fails of the least premise that an event breaks. `None` exactly
@@ -17,21 +21,21 @@ impl<F: Fn(i64) -> i64> World<F> {
         let plant = &self.plant;
         match event {
             Event::Pass { dt, drifts, fibres } => self.pass_broken(*dt, drifts, fibres),
-            Event::Tick { node } => plant.tick_broken(*node),
-            Event::Sample { node, base, bits } => plant.sample_broken(*node, *base, *bits),
-            Event::Depart { node, port, stamp } => plant.depart_broken(*node, *port, *stamp),
-            Event::Arrive { frame, raw } => plant.arrive_broken(*frame, raw),
-            Event::Deliver { frame } => plant.deliver_broken(*frame),
+            Event::Tick { node } => tick_broken(plant, *node),
+            Event::Sample { node, base, bits } => sample_broken(plant, *node, *base, *bits),
+            Event::Depart { node, port, stamp } => depart_broken(plant, *node, *port, *stamp),
+            Event::Arrive { frame, raw } => arrive_broken(plant, *frame, raw),
+            Event::Deliver { frame } => deliver_broken(plant, *frame),
             Event::Noise {
                 node,
                 port,
                 bytes,
                 ..
-            } => plant.noise_broken(*node, *port, bytes),
-            Event::Down { node } => plant.down_broken(*node),
-            Event::Up { node, off, swaps } => plant.up_broken(*node, *off, swaps),
-            Event::Cut { link } => plant.cut_broken(*link),
-            Event::Join { link, ms, sm } => plant.join_broken(*link, *ms, *sm),
+            } => noise_broken(plant, *node, *port, bytes),
+            Event::Down { node } => down_broken(plant, *node),
+            Event::Up { node, off, swaps } => up_broken(plant, *node, *off, swaps),
+            Event::Cut { link } => cut_broken(plant, *link),
+            Event::Join { link, ms, sm } => join_broken(plant, *link, *ms, *sm),
         }
     }
 }

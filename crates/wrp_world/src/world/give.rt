@@ -7,20 +7,20 @@ ghost use Rattle.wrp_node.specs.Control.{law_in};
 ghost use Rattle.wrp_node.specs.Node.{FitsInput, IsValid as NodeIsValid, is_tick};
 ghost use Rattle.wrp_frame.specs.Saying.{Says};
 ghost use Rattle.wrp_node.specs.StandsFor.{Took};
-ghost use Rattle.wrp_plant.specs.FitsGifts.{FitsGift};
-ghost use Rattle.wrp_plant.specs.Gifts.{IsRead};
+ghost use Rattle.wrp_changes.specs.FitsGifts.{FitsGift};
+ghost use Rattle.wrp_changes.specs.Gifts.{IsRead};
 ghost use Rattle.wrp_course.specs.Given.{Given, in_body, in_frame, mover_of};
 ghost use Rattle.wrp_world.specs.Taking.{AreOfNodes, Asks, FirstAsks, Gave, GaveAll};
 ghost use Rattle.wrp_world.specs.Taking.{IsNewsOf, is_signaling, laws_of};
-ghost use Rattle.wrp_plant.specs.Room.{HasRoom};
+ghost use Rattle.wrp_changes.specs.Room.{HasRoom};
 ghost use Rattle.wrp_world.specs.StandsFor.{IsValid};
 
 use super::World;
 use wrp_base::{Body, Tau, WrMsg};
+use wrp_changes::{News, told};
 use wrp_course::NodeOut;
 use wrp_frame::decode;
 use wrp_node::{Input, Node};
-use wrp_plant::News;
 
 impl<F: Fn(i64) -> i64> World<F> {
     // Each node takes its input, in their order; a frame among them was put out then. The memory
@@ -57,7 +57,7 @@ impl<F: Fn(i64) -> i64> World<F> {
         ensures laws { laws_of self.new ≡ laws_of self.old }
     {
         let news = step_node(&mut self.nodes[usize::from(out.node)], put, out);
-        self.plant.told(&news, out.outs.as_slice());
+        told(&mut self.plant, &news, out.outs.as_slice());
     }
 }
 

@@ -13,7 +13,7 @@ ghost use Rattle.wrp_course.specs.Premises as premise;
 ghost use Rattle.wrp_course.specs.Setting.{Setting, nodes_of};
 ghost use Rattle.wrp_world.specs.StandsFor.{IsValid, StandsFor, Tells, up_of};
 ghost use Rattle.wrp_world.specs.Steered.{steering_of};
-ghost use Rattle.wrp_plant.specs.Tried.{steered_rate};
+ghost use Rattle.wrp_premises.specs.Tried.{steered_rate};
 ghost use Rattle.wrp_course.specs.WorldAt.{WorldAt};
 
 use super::World;
@@ -22,7 +22,7 @@ use arrayvec::ArrayVec;
 use wrp_base::ServoState;
 use wrp_course::Breach;
 use wrp_network::NodeCfg;
-use wrp_plant::rate_kept;
+use wrp_premises::{late_broken, moved_fibres_broken, rate_kept, rates_of_fibres_broken};
 
 // Whether a servo is in HOLDOVER.
 fn is_holdover(state: ServoState) -> bool
@@ -156,15 +156,15 @@ impl<F: Fn(i64) -> i64> World<F> {
         ensures { (s : Setting) (w : WorldAt) (says : Result PtpMsg FrameFault)
             → StandsFor F.post s w self.now → result ≡ told_of (premise.checks_of s w says (event.Pass dt drifts.now moves.now)) }
     {
-        if let Some(breach) = self.plant.late_broken(dt) {
+        if let Some(breach) = late_broken(&self.plant, dt) {
             return Some(breach);
         }
         if let Some(breach) = self.rates_broken(dt, drifts) {
             return Some(breach);
         }
-        if let Some(breach) = self.plant.rates_of_fibres_broken(dt, moves) {
+        if let Some(breach) = rates_of_fibres_broken(&self.plant, dt, moves) {
             return Some(breach);
         }
-        self.plant.moved_fibres_broken(moves)
+        moved_fibres_broken(&self.plant, moves)
     }
 }

@@ -10,6 +10,7 @@ use super::World;
 use super::fitting::{event_fits, said};
 use crate::run_laws::events_hold;
 use std::alloc::AllocError;
+use wrp_changes::{begin, put_out_at};
 use wrp_course::{Event, NodeOut};
 
 impl<F: Fn(i64) -> i64> World<F> {
@@ -61,8 +62,8 @@ impl<F: Fn(i64) -> i64> World<F> {
         ensures net { self.new.plant.net ≡ self.old.plant.net }
         ensures laws { laws_of self.new ≡ laws_of self.old }
     {
-        let put = self.plant.put_out_at(event);
-        self.plant.begin(event, outs, &mut self.aside)?;
+        let put = put_out_at(&self.plant, event);
+        begin(&mut self.plant, event, outs, &mut self.aside)?;
         self.give_all(put, outs);
         Ok(())
     }

@@ -3,7 +3,7 @@ use Rattle.wrp_network.specs.declared.configuration.NetCfg.{NetCfg}
 use Rattle.wrp_base.specs.declared.link.Module.{Module}
 use Rattle.wrp_base.specs.Clock.{steps_of_period}
 use Rattle.wrp_course.specs.Setting.{sends_nm}
-use Rattle.wrp_plant.proofs.TriedModules.{entry_told, module_has}
+use Rattle.wrp_plant.proofs.ListedModules.{entry_told, module_has}
 use Rattle.wrp_plant.proofs.plant.Plant.listed_at.Goals as goal
 
 pub returns-clause-value : goal.returns-clause-value

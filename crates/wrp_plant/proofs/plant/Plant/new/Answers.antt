@@ -7,9 +7,8 @@ use Rattle.wrp_caldb.specs.Database.{Database}
 use Rattle.wrp_plant.specs.New.{IsSpanOf, new_clock}
 use Rattle.wrp_plant.specs.Plant.{Each}
 use Rattle.wrp_plant.specs.Sizes.{IsHorizonBy, IsTimeBy}
-use Rattle.wrp_plant.proofs.NewPlants.{new_plant, clocks_fit, spans_fit, frames_fit, none_put}
-use Rattle.wrp_plant.proofs.PutsKept.{never_later}
-use Rattle.wrp_plant.proofs.Roomy.{no_steps}
+use Rattle.wrp_plant.proofs.NewPlants.{new_plant, clocks_fit, spans_fit, frames_fit, none_put, no_steps}
+use Rattle.wrp_plant.proofs.Sizing.{never_later}
 use Rattle.wrp_plant.proofs.SignedReads.{read}
 use Rattle.wrp_plant.proofs.plant.Plant.new.Goals as goal
 

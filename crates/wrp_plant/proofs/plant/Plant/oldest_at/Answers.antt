@@ -1,6 +1,6 @@
 use Rattle.std.proofs.Common.{◌∙◌, ap, option_map, slice_get}
 use Rattle.wrp_plant.specs.declared.ends.EndState.{EndState}
-use Rattle.wrp_plant.proofs.TriedFrames.{oldest_fits, oldest_told}
+use Rattle.wrp_plant.proofs.OldestFrames.{oldest_fits, oldest_told}
 use Rattle.wrp_plant.proofs.plant.Plant.oldest_at.Goals as goal
 
 pub returns-clause-value : goal.returns-clause-value

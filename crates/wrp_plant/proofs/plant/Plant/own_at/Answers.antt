@@ -1,4 +1,4 @@
-use Rattle.wrp_plant.proofs.Carriers.{own_port, own_told, own_within}
+use Rattle.wrp_plant.proofs.OwnPorts.{own_port, own_told, own_within}
 use Rattle.wrp_plant.proofs.plant.Plant.own_at.Goals as goal
 
 pub returns-clause-value : goal.returns-clause-value

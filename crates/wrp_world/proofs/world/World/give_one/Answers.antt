@@ -1,7 +1,7 @@
 -- The node takes its input, and the plant is told of it.
 use Rattle.std.proofs.Common.{◌∙◌, ap, sym, subst, slice_set, ◌+◌}
-use Rattle.wrp_plant.specs.PlantTold.{MayStep, SendsFew}
-use Rattle.wrp_plant.specs.Room.{HasRoom}
+use Rattle.wrp_changes.specs.PlantTold.{MayStep, SendsFew}
+use Rattle.wrp_changes.specs.Room.{HasRoom}
 use Rattle.wrp_world.proofs.Inside.{world_of}
 use Rattle.wrp_world.proofs.NodesTake.{few_sent, fits_input, gave_one, laws_next, news_read, node_here, steps_once, told_one, took_one, valid_next}
 use Rattle.wrp_world.proofs.world.World.give_one.Goals as goal
@@ -38,10 +38,10 @@ pub returns-clause-valid : goal.returns-clause-valid
 returns-clause-valid g c =
     let took = took_one _ _ c.args.put c.args.self.now c.self.inside.plant c.self.inside.nodes.items c.args.out.now c.step_node-news.new.out.outs.items c.from.result c.index_mut.result.now c.step_node-news.new.node c.step_node-news.result
     c.self.view_is c.requires.valid c.requires.gift c.from.ensures c.index_mut.ensures.value c.step_node-news.ensures.took (news_read _ c.args.put _ _ _ _ (record { sfits = c.ranges.put.sfits }) c.step_node-news.ensures.news) in
-    let told = told_one _ _ c.args.put c.args.self.now c.args.out.now c.step_node-news.new.out c.index_mut.result.now c.step_node-news.new.node c.step_node-news.result c.self.inside.plant c.told.new.self c.self.inside.nodes.items c.from.result c.as_slice.result.now
+    let told = told_one _ _ c.args.put c.args.self.now c.args.out.now c.step_node-news.new.out c.index_mut.result.now c.step_node-news.new.node c.step_node-news.result c.self.inside.plant c.told.new.plant c.self.inside.nodes.items c.from.result c.as_slice.result.now
     took c.self.view_is c.from.ensures c.step_node-news.ensures.node c.step_node-news.ensures.input c.as_slice.ensures.value c.told.ensures.is in
     valid_next _ _ c.args.put c.args.self.now c.args.out.now c.step_node-news.new.out c.index_mut.result.now c.step_node-news.new.node c.step_node-news.result
-    (world_of c.told.new.self (slice_set c.self.inside.nodes.items c.from.result c.step_node-news.new.node)) told
+    (world_of c.told.new.plant (slice_set c.self.inside.nodes.items c.from.result c.step_node-news.new.node)) told
     (record {
       fits = c.told.ensures.fits;
       net = c.told.ensures.net ∙ ap (λ w. w.plant.net) c.self.view_is;
@@ -53,10 +53,10 @@ pub returns-clause-gave : goal.returns-clause-gave
 returns-clause-gave g c =
     let took = took_one _ _ c.args.put c.args.self.now c.self.inside.plant c.self.inside.nodes.items c.args.out.now c.step_node-news.new.out.outs.items c.from.result c.index_mut.result.now c.step_node-news.new.node c.step_node-news.result
     c.self.view_is c.requires.valid c.requires.gift c.from.ensures c.index_mut.ensures.value c.step_node-news.ensures.took (news_read _ c.args.put _ _ _ _ (record { sfits = c.ranges.put.sfits }) c.step_node-news.ensures.news) in
-    let told = told_one _ _ c.args.put c.args.self.now c.args.out.now c.step_node-news.new.out c.index_mut.result.now c.step_node-news.new.node c.step_node-news.result c.self.inside.plant c.told.new.self c.self.inside.nodes.items c.from.result c.as_slice.result.now
+    let told = told_one _ _ c.args.put c.args.self.now c.args.out.now c.step_node-news.new.out c.index_mut.result.now c.step_node-news.new.node c.step_node-news.result c.self.inside.plant c.told.new.plant c.self.inside.nodes.items c.from.result c.as_slice.result.now
     took c.self.view_is c.from.ensures c.step_node-news.ensures.node c.step_node-news.ensures.input c.as_slice.ensures.value c.told.ensures.is in
     gave_one _ _ c.args.put c.args.self.now c.args.out.now c.step_node-news.new.out c.index_mut.result.now c.step_node-news.new.node c.step_node-news.result
-    (world_of c.told.new.self (slice_set c.self.inside.nodes.items c.from.result c.step_node-news.new.node)) told
+    (world_of c.told.new.plant (slice_set c.self.inside.nodes.items c.from.result c.step_node-news.new.node)) told
 
 pub returns-clause-room : goal.returns-clause-room
 returns-clause-room g c k h = c.told.ensures.room k (subst (λ w. HasRoom (k + 1) w.plant) (sym c.self.view_is) h)
@@ -65,7 +65,7 @@ pub returns-clause-laws : goal.returns-clause-laws
 returns-clause-laws g c =
     let took = took_one _ _ c.args.put c.args.self.now c.self.inside.plant c.self.inside.nodes.items c.args.out.now c.step_node-news.new.out.outs.items c.from.result c.index_mut.result.now c.step_node-news.new.node c.step_node-news.result
     c.self.view_is c.requires.valid c.requires.gift c.from.ensures c.index_mut.ensures.value c.step_node-news.ensures.took (news_read _ c.args.put _ _ _ _ (record { sfits = c.ranges.put.sfits }) c.step_node-news.ensures.news) in
-    let told = told_one _ _ c.args.put c.args.self.now c.args.out.now c.step_node-news.new.out c.index_mut.result.now c.step_node-news.new.node c.step_node-news.result c.self.inside.plant c.told.new.self c.self.inside.nodes.items c.from.result c.as_slice.result.now
+    let told = told_one _ _ c.args.put c.args.self.now c.args.out.now c.step_node-news.new.out c.index_mut.result.now c.step_node-news.new.node c.step_node-news.result c.self.inside.plant c.told.new.plant c.self.inside.nodes.items c.from.result c.as_slice.result.now
     took c.self.view_is c.from.ensures c.step_node-news.ensures.node c.step_node-news.ensures.input c.as_slice.ensures.value c.told.ensures.is in
-    laws_next c.args.self.now (world_of c.told.new.self (slice_set c.self.inside.nodes.items c.from.result c.step_node-news.new.node)) c.args.out.now.node c.index_mut.result.now c.step_node-news.new.node
+    laws_next c.args.self.now (world_of c.told.new.plant (slice_set c.self.inside.nodes.items c.from.result c.step_node-news.new.node)) c.args.out.now.node c.index_mut.result.now c.step_node-news.new.node
     took.node_at told.nodes c.step_node-news.ensures.law

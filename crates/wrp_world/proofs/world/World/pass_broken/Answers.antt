@@ -5,7 +5,7 @@ use Rattle.wrp_course.specs.Checks.{told_of}
 use Rattle.wrp_plant.specs.Plant.{PlantIs}
 use Rattle.wrp_course.specs.Premises.{fibre_rate, rate_kept, tick_late}
 use Rattle.wrp_course.specs.Setting.{links_of, nodes_of}
-use Rattle.wrp_plant.proofs.Counting.{told_first, told_later}
+use Rattle.wrp_premises.proofs.Counting.{told_first, told_later}
 use Rattle.wrp_world.proofs.Inside.{plant_is}
 use Rattle.wrp_world.proofs.world.World.pass_broken.Goals as goal
 

@@ -5,7 +5,7 @@ use Rattle.wrp_plant.specs.Plant.{PlantIs}
 use Rattle.wrp_course.specs.Setting.{node_setting_of}
 use Rattle.wrp_world.proofs.Inside.{plant_is}
 use Rattle.wrp_world.proofs.Steering.{network_in, or_rest, or_some, rate_asked}
-use Rattle.wrp_plant.proofs.TriedRates.{rate_small}
+use Rattle.wrp_premises.proofs.TriedRates.{rate_small}
 use Rattle.wrp_world.proofs.world.World.rate_where.Goals as goal
 
 pub returns-in-Some-clause-value : goal.returns-in-Some-clause-value

@@ -5,7 +5,7 @@ use Rattle.wrp_network.specs.declared.configuration.NetCfg.{NetCfg}
 use Rattle.wrp_course.specs.Checks.{told_of}
 use Rattle.wrp_course.specs.Premises.{rate_kept}
 use Rattle.wrp_course.specs.Setting.{from_on, nodes_of}
-use Rattle.wrp_plant.proofs.Counting.{range_end, range_more}
+use Rattle.wrp_premises.proofs.Counting.{range_end, range_more}
 use Rattle.wrp_course.proofs.Told.{ends, goes_on}
 use Rattle.wrp_world.proofs.world.World.rates_broken.Goals as goal
 

@@ -3,7 +3,7 @@ use Rattle.std.proofs.lemmas.Result.{err_from_is_err_and}
 use Rattle.wrp_world.proofs.RunsOn.{runs_on}
 use Rattle.wrp_world.proofs.TrueRuns.{links_go_on, runs_kept, truth_goes_on}
 use Rattle.wrp_world.proofs.WorldSteps.{breach_refused, kept_so, memory_refused, none_left, stepped_so}
-use Rattle.wrp_plant.proofs.Refusals.{on_err}
+use Rattle.wrp_changes.proofs.Refusals.{on_err}
 use Rattle.wrp_world.proofs.world.World.step_into.Goals as goal
 
 pub returns-in-Some-clause-refusal : goal.returns-in-Some-clause-refusal

@@ -1,7 +1,7 @@
 -- What the event's octets say is read, and the event is taken.
 use Rattle.wrp_world.proofs.TakenRuns.{can_so, takes_links_on, takes_runs_on, takes_truth_on}
 use Rattle.wrp_world.proofs.TrueRuns.{runs_kept}
-use Rattle.wrp_plant.proofs.Refusals.{on_err}
+use Rattle.wrp_changes.proofs.Refusals.{on_err}
 use Rattle.wrp_world.proofs.world.World.take.Goals as goal
 
 pub take_so-requires-clause-accepted : goal.take_so-requires-clause-accepted

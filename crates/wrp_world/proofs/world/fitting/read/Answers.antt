@@ -1,6 +1,6 @@
 use Rattle.std.proofs.Common.{subst, ℕ, List}
 use Rattle.wrp_frame.specs.Saying.{Says}
-use Rattle.wrp_plant.proofs.TriedOctets.{says_it}
+use Rattle.wrp_premises.proofs.TriedOctets.{says_it}
 use Rattle.wrp_world.proofs.world.fitting.read.Goals as goal
 
 pub returns : goal.returns

@@ -1,0 +1,9 @@
+pub mod Begins
+pub mod Changes
+pub mod FitsGifts
+pub mod Flights
+pub mod Gifts
+pub mod Giving
+pub mod Moves
+pub mod PlantTold
+pub mod Room

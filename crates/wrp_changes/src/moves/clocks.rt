@@ -1,0 +1,76 @@
+//! Clocks that move away from true time.
+ghost use Rattle.std.specs.Prelude.{◌≡◌, ◌<◌, ◌≤◌, ◌+◌, ◌+ℤ◌, ◌^◌, length, unsigned_abs};
+ghost use Rattle.wrp_course.specs.Moved.{drift_of};
+ghost use Rattle.wrp_changes.specs.Moves.{At, ComesUp, Drifts, GoesDown, Samples, EachBecame};
+ghost use Rattle.wrp_plant.specs.Plant.{Each};
+ghost use Rattle.wrp_plant.specs.Sizes.{IsOff};
+
+use wrp_base::{Tau, sum};
+use wrp_course::ClockState;
+
+// How far a clock moves.
+fn drift_at(drifts: &[i64], n: usize) -> i64
+    ensures value { result ≡ drift_of drifts.now n }
+    ensures size { unsigned_abs result ≤ 2 ^ 63 }
+{
+    match drifts.get(n) {
+        Some(drift) => *drift,
+        None => 0,
+    }
+}
+
+// A clock moves.
+fn drift_by(clock: &mut ClockState, drift: i64)
+    requires { IsOff clock.old.off }
+    ensures { clock.new ≡ record clock.old { off = clock.old.off +ℤ drift } }
+{
+    clock.off = sum(clock.off, i128::from(drift));
+}
+
+// A clock moves by its own of the drifts.
+fn drift_one(clock: &mut ClockState, drifts: &[i64], n: usize)
+    requires { IsOff clock.old.off }
+    ensures { Drifts drifts.now n clock.old clock.new }
+{
+    drift_by(clock, drift_at(drifts, n));
+}
+
+/// Each clock moves by its own of the drifts.
+pub fn drift(clocks: &mut Vec<ClockState>, drifts: &[i64])
+    requires { Each (λ n clock. IsOff clock.off) clocks.old.items }
+    ensures { EachBecame (Drifts drifts.now) clocks.old.items clocks.new.items }
+{
+    for n in 0..clocks.len() {
+        drift_one(&mut clocks[n], drifts, n);
+    }
+}
+
+/// A clock counts a sample more.
+pub fn sampled(clocks: &mut Vec<ClockState>, n: u8)
+    requires node { n < length clocks.old.items }
+    requires few { Each (λ k clock. clock.samples + 1 < 2 ^ 32) clocks.old.items }
+    ensures { EachBecame (At n Samples) clocks.old.items clocks.new.items }
+{
+    clocks[usize::from(n)].samples += 1;
+}
+
+/// A node's clock is down.
+pub fn go_down(clocks: &mut Vec<ClockState>, n: u8)
+    requires { n < length clocks.old.items }
+    ensures { EachBecame (At n GoesDown) clocks.old.items clocks.new.items }
+{
+    clocks[usize::from(n)].up = false;
+}
+
+/// A node's clock comes up with this offset.
+pub fn come_up(clocks: &mut Vec<ClockState>, n: u8, off: Tau, now: Tau)
+    requires { n < length clocks.old.items }
+    ensures { EachBecame (At n (ComesUp off now)) clocks.old.items clocks.new.items }
+{
+    clocks[usize::from(n)] = ClockState {
+        up: true,
+        off,
+        ticked: now,
+        samples: 0,
+    };
+}

@@ -1,0 +1,151 @@
+//! Fibres that move, are joined and are cut, and frames that are lost as they wait.
+ghost use Rattle.std.specs.Prelude.{◌≡◌, ◌<◌, ℕ, pos, true, length, slice_get, Some};
+ghost use Rattle.wrp_course.specs.Moved.{move_of};
+ghost use Rattle.wrp_changes.specs.Moves.{At, Cuts, Drops, DropsAt, Empties, Joins, Moves, EachBecame, Where, touches_in};
+ghost use Rattle.wrp_plant.specs.Plant.{Each};
+ghost use Rattle.wrp_plant.specs.Sizes.{IsDelay};
+
+use wrp_base::Tau;
+use wrp_course::FibreState;
+use wrp_network::{LinkCfg, NetCfg};
+use wrp_plant::{EndState, Span, down_at, move_by, up_at};
+
+// The delays of a link move by its own of the moves, down and up.
+fn move_span(span: &mut Span, moves: &[(i64, i64)], k: usize)
+    requires ms { IsDelay span.old.fibre.ms }
+    requires sm { IsDelay span.old.fibre.sm }
+    ensures { Moves moves.now k span.old span.new }
+{
+    move_by(&mut span.fibre, down_at(moves, k), up_at(moves, k));
+}
+
+// Whether the delays of a fibre move neither down nor up.
+fn stays_at(moves: &[(i64, i64)], k: usize) -> bool
+    ensures { result ≡ true → move_of moves.now k ≡ (pos 0, pos 0) }
+{
+    match moves.get(k) {
+        Some(by) => by.0 == 0 && by.1 == 0,
+        None => true,
+    }
+}
+
+// The same; a fibre that does not move is left at once.
+fn move_one(span: &mut Span, moves: &[(i64, i64)], k: usize)
+    requires ms { IsDelay span.old.fibre.ms }
+    requires sm { IsDelay span.old.fibre.sm }
+    ensures { Moves moves.now k span.old span.new }
+{
+    if !stays_at(moves, k) {
+        move_span(span, moves, k);
+    }
+}
+
+// Whether no fibre moves.
+fn all_stay(moves: &[(i64, i64)]) -> bool
+    ensures { result ≡ true → (k : ℕ) → move_of moves.now k ≡ (pos 0, pos 0) }
+{
+    for k in 0..moves.len() {
+        if !stays_at(moves, k) {
+            return false;
+        }
+    }
+    true
+}
+
+// The delays of each link move by its own of the moves.
+fn move_each(spans: &mut Vec<Span>, moves: &[(i64, i64)])
+    requires { Each (λ k span. IsDelay span.fibre.ms × IsDelay span.fibre.sm) spans.old.items }
+    ensures { EachBecame (Moves moves.now) spans.old.items spans.new.items }
+{
+    for k in 0..spans.len() {
+        move_one(&mut spans[k], moves, k);
+    }
+}
+
+/// The delays of each link move by its own of the moves; where none moves, no link is looked at.
+pub fn move_fibres(spans: &mut Vec<Span>, moves: &[(i64, i64)])
+    requires { Each (λ k span. IsDelay span.fibre.ms × IsDelay span.fibre.sm) spans.old.items }
+    ensures { EachBecame (Moves moves.now) spans.old.items spans.new.items }
+{
+    if !all_stay(moves) {
+        move_each(spans, moves);
+    }
+}
+
+/// A link is joined.
+pub fn join(spans: &mut Vec<Span>, k: u8, ms: Tau, sm: Tau)
+    requires { k < length spans.old.items }
+    ensures { EachBecame (At k (Joins ms sm)) spans.old.items spans.new.items }
+{
+    spans[usize::from(k)].fibre = FibreState {
+        joined: true,
+        ms,
+        sm,
+    };
+}
+
+// What waits at an end is lost.
+fn empty(end: &mut EndState)
+    ensures { Empties end.old end.new }
+{
+    end.waiting.clear();
+}
+
+// What waits at both ends of a link is lost.
+fn drop_waiting(span: &mut Span)
+    ensures { Drops span.old span.new }
+{
+    empty(&mut span.master);
+    empty(&mut span.slave);
+}
+
+// A link is cut.
+fn cut_span(span: &mut Span)
+    ensures { Cuts span.old span.new }
+{
+    drop_waiting(span);
+    span.fibre.joined = false;
+}
+
+/// A link is cut, and what waits at its ends is lost.
+pub fn cut(spans: &mut Vec<Span>, k: u8)
+    requires { k < length spans.old.items }
+    ensures { EachBecame (At k Cuts) spans.old.items spans.new.items }
+{
+    cut_span(&mut spans[usize::from(k)]);
+}
+
+/// An end of a link is this node's.
+pub fn is_end_of(link: &LinkCfg, n: u8) -> bool
+    ensures { result ≡ touches_in n (Some link.now) }
+{
+    link.upper == n || link.lower == n
+}
+
+/// An end of the link of a number is this node's.
+pub fn touches(cfg: &NetCfg, k: usize, n: u8) -> bool
+    ensures { result ≡ touches_in n (slice_get cfg.now.links.items k) }
+{
+    match cfg.links.get(k) {
+        Some(link) => is_end_of(link, n),
+        None => false,
+    }
+}
+
+// What waits at both ends of a link is lost, where it is so.
+fn drop_where(span: &mut Span, lost: bool)
+    ensures { Where lost Drops span.old span.new }
+{
+    if lost {
+        drop_waiting(span);
+    }
+}
+
+/// What waits at the ends of a node's links is lost.
+pub fn drop_at(spans: &mut Vec<Span>, cfg: &NetCfg, n: u8)
+    ensures { EachBecame (DropsAt n cfg.now.links.items) spans.old.items spans.new.items }
+{
+    for k in 0..spans.len() {
+        drop_where(&mut spans[k], touches(cfg, k, n));
+    }
+}

@@ -1,6 +1,0 @@
-use Rattle.std.proofs.Common.{◌∙◌, ap, ◌∷◌, []}
-use Rattle.wrp_course.specs.Checks.{told_of, needs}
-use Rattle.wrp_plant.proofs.plant.Plant.cut_broken.Goals as goal
-
-pub returns : goal.returns
-returns c s w h = c.stands.ensures ∙ ap (λ b. told_of (needs b ∷ [])) (c.joined.ensures s w h)

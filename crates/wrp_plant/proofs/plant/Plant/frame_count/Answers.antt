@@ -1,5 +1,0 @@
-use Rattle.std.proofs.Common.{◌∙◌}
-use Rattle.wrp_plant.proofs.plant.Plant.frame_count.Goals as goal
-
-pub returns : goal.returns
-returns c s w h = c.count.ensures ∙ h.frames.count

@@ -1,6 +1,0 @@
-use Rattle.wrp_plant.proofs.Carried.{down_gives}
-use Rattle.wrp_plant.proofs.Departing.{on_ok}
-use Rattle.wrp_plant.proofs.plant.Plant.give_down.Goals as goal
-
-pub returns : goal.returns
-returns c = on_ok c.goes_at_ports.result c.goes_at_ports.ensures (down_gives c.args.self.now c.args.n _ _ c.requires.fits c.clear.ensures.items)

@@ -1,6 +1,0 @@
-use Rattle.wrp_plant.proofs.Carried.{join_gives}
-use Rattle.wrp_plant.proofs.Departing.{on_ok}
-use Rattle.wrp_plant.proofs.plant.Plant.give_join.Goals as goal
-
-pub returns : goal.returns
-returns c = on_ok c.comes_if_up.result c.comes_if_up.ensures (λ h ms sm. join_gives c.args.self.now c.args.link ms sm _ _ c.clear.ensures.items h)

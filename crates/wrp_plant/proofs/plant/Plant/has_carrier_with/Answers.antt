@@ -1,7 +1,0 @@
-use Rattle.wrp_plant.proofs.Carriers.{carrier_with}
-use Rattle.wrp_plant.proofs.plant.Plant.has_carrier_with.Goals as goal
-
-pub returns : goal.returns
-returns c s w off swaps h =
-    carrier_with s w c.args.self.now c.args.n c.args.k off swaps c.link_cfg-link.result.now c.all_three.result c.joined-joined.result c.is_up_with-upper.result c.is_up_with-lower.result h
-    c.link_cfg-link.ensures.value c.all_three.ensures (c.joined-joined.ensures s w h) (c.is_up_with-upper.ensures s w off swaps h) (c.is_up_with-lower.ensures s w off swaps h)

@@ -1,7 +1,0 @@
--- The clocks so far have moved, and the others are as they were.
-use Rattle.wrp_plant.specs.Moves.{Drifts}
-use Rattle.wrp_plant.proofs.Turned.{TurnedTo}
-use Rattle.wrp_plant.proofs.plant.moves.clocks.drift.Given as goal
-
-abbrev pub invariant-loop-n : goal.invariant-loop-n
-invariant-loop-n l = TurnedTo (Drifts l.fn.drifts) l.fn.clocks.items l.clocks.items l.n

@@ -1,7 +1,0 @@
--- The fibres so far have moved, and the others are as they were.
-use Rattle.wrp_plant.specs.Moves.{Moves}
-use Rattle.wrp_plant.proofs.Turned.{TurnedTo}
-use Rattle.wrp_plant.proofs.plant.moves.spans.move_each.Given as goal
-
-abbrev pub invariant-loop-k : goal.invariant-loop-k
-invariant-loop-k l = TurnedTo (Moves l.fn.moves) l.fn.spans.items l.spans.items l.k

@@ -1,5 +1,0 @@
-use Rattle.wrp_plant.proofs.StillFibres.{all_still}
-use Rattle.wrp_plant.proofs.plant.moves.spans.move_fibres.Goals as goal
-
-pub returns-else-not-all_stay : goal.returns-else-not-all_stay
-returns-else-not-all_stay c = all_still c.args.moves.now c.args.spans.now.items (c.all_stay.ensures c.if-not-all_stay.false)

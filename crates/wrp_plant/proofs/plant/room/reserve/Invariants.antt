@@ -1,7 +1,0 @@
--- The links so far have memory for the steps, and the others are as they were.
-use Rattle.wrp_plant.proofs.Roomy.{Takes}
-use Rattle.wrp_plant.proofs.Turned.{TurnedTo}
-use Rattle.wrp_plant.proofs.plant.room.reserve.Given as goal
-
-abbrev pub invariant-loop-k : goal.invariant-loop-k
-invariant-loop-k l = TurnedTo (Takes l.fn.steps) l.fn.spans.items l.spans.items l.k

@@ -1,7 +1,0 @@
--- The links so far were told, with memory for the steps that are left, and the others are as they were.
-use Rattle.wrp_plant.proofs.TellingEnds.{TellsWithRoom}
-use Rattle.wrp_plant.proofs.Turned.{TurnedTo}
-use Rattle.wrp_plant.proofs.plant.told.ends.tell.Given as goal
-
-abbrev pub invariant-loop-k : goal.invariant-loop-k
-invariant-loop-k l = TurnedTo (TellsWithRoom l.fn.now l.fn.news l.fn.outs l.fn.cfg.links.items) l.fn.spans.items l.spans.items l.k

@@ -1,4 +1,0 @@
-use Rattle.wrp_plant.proofs.plant.told.ends.tell_both.Goals as goal
-
-pub returns-clause-room : goal.returns-clause-room
-returns-clause-room c k h = record { master = c.tell_where.ensures.room k h.master; slave = c.tell_where-2.ensures.room k h.slave }

@@ -1,7 +1,0 @@
--- None of the outputs so far is a frame.
-use Rattle.std.proofs.Common.{◌≡◌, drop}
-use Rattle.wrp_plant.specs.PlantTold.{sends}
-use Rattle.wrp_plant.proofs.plant.told.reads.sends.Given as goal
-
-abbrev pub invariant-loop-out : goal.invariant-loop-out
-invariant-loop-out l = sends (drop l.out-index l.fn.outs) ≡ sends l.fn.outs

@@ -1,7 +1,0 @@
--- None so far is the port.
-use Rattle.std.proofs.Common.{◌≡◌, drop}
-use Rattle.wrp_node.specs.States.{state_in}
-use Rattle.wrp_plant.proofs.plant.told.reads.state_in.Given as goal
-
-abbrev pub invariant-loop-it : goal.invariant-loop-it
-invariant-loop-it l = state_in l.fn.port (drop l.it-index l.fn.ports) ≡ state_in l.fn.port l.fn.ports

@@ -1,9 +1,0 @@
--- What is told of the clocks that are left is told of all.
-use Rattle.std.proofs.Common.{◌≡◌, map, drop}
-use Rattle.wrp_course.specs.Checks.{told_of}
-use Rattle.wrp_course.specs.Premises.{late_by}
-use Rattle.wrp_plant.proofs.premises.ticks.ticks_late.Given as goal
-
-abbrev pub invariant-loop-clock : goal.invariant-loop-clock
-invariant-loop-clock l =
-    told_of (map (late_by l.fn.most l.fn.after) (drop l.clock-index l.fn.clocks)) ≡ told_of (map (late_by l.fn.most l.fn.after) l.fn.clocks)

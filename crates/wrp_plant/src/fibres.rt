@@ -1,0 +1,54 @@
+//! A fibre whose delays move, and by how much an event moves them.
+ghost use Rattle.std.specs.Prelude.{◌≡◌, ◌≤◌, ◌+ℤ◌, ◌^◌, unsigned_abs};
+ghost use Rattle.wrp_course.specs.Moved.{move_of};
+ghost use Rattle.wrp_plant.specs.Plant.{moved_fibre};
+ghost use Rattle.wrp_plant.specs.Sizes.{IsDelay};
+
+use wrp_base::sum;
+use wrp_course::FibreState;
+
+/// How far the delay of a fibre moves down.
+pub fn down_at(moves: &[(i64, i64)], k: usize) -> i64
+    ensures value { result ≡ (move_of moves.now k).0 }
+    ensures size { unsigned_abs result ≤ 2 ^ 63 }
+{
+    match moves.get(k) {
+        Some(by) => by.0,
+        None => 0,
+    }
+}
+
+/// How far it moves up.
+pub fn up_at(moves: &[(i64, i64)], k: usize) -> i64
+    ensures value { result ≡ (move_of moves.now k).1 }
+    ensures size { unsigned_abs result ≤ 2 ^ 63 }
+{
+    match moves.get(k) {
+        Some(by) => by.1,
+        None => 0,
+    }
+}
+
+/// The delays of a fibre move, down and up.
+pub fn move_by(fibre: &mut FibreState, down: i64, up: i64)
+    requires ms { IsDelay fibre.old.ms }
+    requires sm { IsDelay fibre.old.sm }
+    ensures { fibre.new ≡ record fibre.old { ms = fibre.old.ms +ℤ down; sm = fibre.old.sm +ℤ up } }
+{
+    fibre.ms = sum(fibre.ms, i128::from(down));
+    fibre.sm = sum(fibre.sm, i128::from(up));
+}
+
+/// A fibre whose delays moved by its own of the moves.
+pub fn moved(fibre: &FibreState, moves: &[(i64, i64)], k: u8) -> FibreState
+    requires ms { unsigned_abs fibre.now.ms ≤ 2 ^ 98 }
+    requires sm { unsigned_abs fibre.now.sm ≤ 2 ^ 98 }
+    ensures value { result ≡ moved_fibre moves.now k fibre.now }
+    ensures ms { IsDelay result.ms }
+    ensures sm { IsDelay result.sm }
+{
+    let mut moved = *fibre;
+    let place = usize::from(k);
+    move_by(&mut moved, down_at(moves, place), up_at(moves, place));
+    moved
+}

@@ -1,0 +1,51 @@
+//! Which node is the grandmaster, and which has the link above it at its own place.
+ghost use Rattle.std.specs.Prelude.{◌≡◌, ◌==◌, ◌≤◌, ◌-◌, not, true, false, slice_get};
+ghost use Rattle.std.specs.Option.{is_some, option_map_or};
+ghost use Rattle.wrp_network.specs.Network.{link_above as link_over};
+ghost use Rattle.wrp_plant.specs.Plant.{FitsPlant, PlantIs};
+ghost use Rattle.wrp_course.specs.Setting.{Setting};
+ghost use Rattle.wrp_course.specs.WorldAt.{WorldAt};
+
+use super::Plant;
+use wrp_config::link_above;
+use wrp_network::NetCfg;
+
+// Whether the link of a number stands above a node.
+fn is_above(cfg: &NetCfg, k: usize, n: u8) -> bool
+    ensures { result ≡ option_map_or (λ link. link.lower == n) (slice_get cfg.now.links.items k) false }
+{
+    match cfg.links.get(k) {
+        Some(link) => link.lower == n,
+        None => false,
+    }
+}
+
+/// Whether the link above a node has the number one below the node's: so it is where links are in the order of
+/// their lower nodes and the first node is the grandmaster.
+pub fn has_own_link(cfg: &NetCfg, n: u8) -> bool
+    ensures above { result ≡ true → is_some (link_over cfg.now n) ≡ true }
+    ensures some { result ≡ true → 1 ≤ n }
+    ensures place { result ≡ true → option_map_or (λ link. link.lower == n)
+        (slice_get cfg.now.links.items (n - 1)) false ≡ true }
+{
+    if n == 0 {
+        return false;
+    }
+    is_above(cfg, usize::from(n) - 1, n)
+}
+
+impl Plant {
+    /// Whether no link stands above a node: it is the grandmaster.
+    pub fn is_top(&self, n: u8) -> bool
+        requires { FitsPlant self.now }
+        ensures { (s : Setting) (w : WorldAt) → PlantIs s w self.now
+            → result ≡ not (is_some (link_over s.cfg n)) }
+    {
+        let cfg = self.cfg();
+        if has_own_link(cfg, n) {
+            false
+        } else {
+            link_above(cfg, n).is_none()
+        }
+    }
+}

@@ -1,0 +1,13 @@
+-- What is told of the modules that are left is told of all.
+use Rattle.std.proofs.Common.{◌≡◌, drop, flat_map}
+use Rattle.wrp_course.specs.Checks.{told_of}
+use Rattle.wrp_plant.specs.Plant.{PlantIs}
+use Rattle.wrp_course.specs.Premises.{module_kept}
+use Rattle.wrp_course.specs.Setting.{Setting}
+use Rattle.wrp_course.specs.WorldAt.{WorldAt}
+use Rattle.wrp_premises.proofs.tries.modules.modules_broken.Given as goal
+
+abbrev pub invariant-loop-swap : goal.invariant-loop-swap
+invariant-loop-swap l =
+    (s : Setting) (w : WorldAt) → PlantIs s w l.fn.plant →
+    told_of (flat_map (module_kept s l.fn.n) (drop l.swap-index l.fn.swaps)) ≡ told_of (flat_map (module_kept s l.fn.n) l.fn.swaps)

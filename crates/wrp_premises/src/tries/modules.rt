@@ -1,0 +1,108 @@
+//! Which premise the modules break with which a node comes up, and what the network has of one.
+ghost use Rattle.std.specs.Prelude.{◌≡◌, ◌<◌, ◌≤◌, ◌^◌, ◌∷◌, [], length, map, flat_map, not, true, unsigned_abs, Result};
+ghost use Rattle.wrp_base.specs.declared.message.PtpMsg.{PtpMsg};
+ghost use Rattle.wrp_frame.specs.declared.fault.FrameFault.{FrameFault};
+ghost use Rattle.wrp_course.specs.Checks.{told_of};
+ghost use Rattle.wrp_course.specs.Checks as spec;
+ghost use Rattle.wrp_course.specs.declared.event.Event.TheVariants as event;
+ghost use Rattle.wrp_plant.specs.Plant.{FitsPlant, PlantIs};
+ghost use Rattle.wrp_course.specs.Premises as premise;
+ghost use Rattle.wrp_course.specs.Setting.{Setting};
+ghost use Rattle.wrp_course.specs.WorldAt.{WorldAt};
+
+use super::fibres::swapped_fibres_broken;
+use crate::checks::stands;
+use crate::premises::modules::module_kept;
+use crate::premises::rates::true_at_top;
+use arrayvec::ArrayVec;
+use wrp_base::Tau;
+use wrp_course::{Breach, Swap, place_of};
+use wrp_plant::Plant;
+
+// The grandmaster comes up with true time.
+fn top_broken(plant: &Plant, n: u8, off: Tau) -> Option<Breach>
+    requires fits { FitsPlant plant.now }
+    requires off { unsigned_abs off ≤ 2 ^ 90 }
+    ensures { (s : Setting) (w : WorldAt) → PlantIs s w plant.now
+        → result ≡ told_of (premise.true_at_top s n off ∷ []) }
+{
+    let is_top = plant.is_top(n);
+    true_at_top(is_top, off)
+}
+
+// The true delays of a module that is put in place.
+fn module_broken(plant: &Plant, n: u8, swap: &Swap) -> Option<Breach>
+    requires { FitsPlant plant.now }
+    ensures { (s : Setting) (w : WorldAt) → PlantIs s w plant.now
+        → result ≡ told_of (premise.module_kept s n swap.now) }
+{
+    match place_of(&plant.net.cfg, n, swap.port) {
+        Some(place) => module_kept(swap, plant.listed_at(place, swap.name.as_str())),
+        None => None,
+    }
+}
+
+// The true delays of all modules that are put in place.
+fn modules_broken(plant: &Plant, n: u8, swaps: &[Swap]) -> Option<Breach>
+    requires { FitsPlant plant.now }
+    ensures { (s : Setting) (w : WorldAt) → PlantIs s w plant.now
+        → result ≡ told_of (flat_map (premise.module_kept s n) swaps.now) }
+{
+    for swap in swaps {
+        if let Some(breach) = module_broken(plant, n, swap) {
+            return Some(breach);
+        }
+    }
+    None
+}
+
+// A module is put in place at a port of a link.
+fn port_broken(plant: &Plant, n: u8, swap: &Swap) -> Option<Breach>
+    requires { FitsPlant plant.now }
+    ensures { (s : Setting) (w : WorldAt) → PlantIs s w plant.now
+        → result ≡ told_of (premise.swap_stands s n swap.now ∷ []) }
+{
+    let place = place_of(&plant.net.cfg, n, swap.port);
+    stands(place.is_some())
+}
+
+// All modules are put in place at ports of links.
+fn ports_broken(plant: &Plant, n: u8, swaps: &[Swap]) -> Option<Breach>
+    requires { FitsPlant plant.now }
+    ensures { (s : Setting) (w : WorldAt) → PlantIs s w plant.now
+        → result ≡ told_of (map (premise.swap_stands s n) swaps.now) }
+{
+    for swap in swaps {
+        if let Some(breach) = port_broken(plant, n, swap) {
+            return Some(breach);
+        }
+    }
+    None
+}
+
+// A node that is up does not come up.
+fn up_again_broken(plant: &Plant, n: u8) -> Option<Breach>
+    requires fits { FitsPlant plant.now }
+    requires node { n < length plant.now.net.cfg.nodes.items }
+    ensures { (s : Setting) (w : WorldAt) → PlantIs s w plant.now
+        → result ≡ told_of (spec.needs (not (w.clock n).up) ∷ []) }
+{
+    let up = plant.is_up(n);
+    stands(!up)
+}
+
+/// A node that comes up. The offset is in the range of an event.
+pub fn up_broken(plant: &Plant, n: u8, off: Tau, swaps: &ArrayVec<Swap, 18>) -> Option<Breach>
+    requires fits { FitsPlant plant.now }
+    requires node { n < length plant.now.net.cfg.nodes.items }
+    requires off { unsigned_abs off ≤ 2 ^ 90 }
+    ensures { (s : Setting) (w : WorldAt) (says : Result PtpMsg FrameFault)
+        → PlantIs s w plant.now → result ≡ told_of (premise.checks_of s w says (event.Up n off swaps.now)) }
+{
+    let top = top_broken(plant, n, off);
+    let fibres = swapped_fibres_broken(plant, n, swaps);
+    let modules = modules_broken(plant, n, swaps.as_slice());
+    let ports = ports_broken(plant, n, swaps.as_slice());
+    let up = up_again_broken(plant, n);
+    top.or(fibres).or(modules).or(ports).or(up)
+}
