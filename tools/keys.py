@@ -92,7 +92,7 @@ def spelled(tau):
 
 class Number:
     """A number of a network file: a key of the network, of one node, link, module or fibre, or of all of a kind. A key of
-    a module is that of each of its entries."""
+    a module is the key of each of its entries."""
 
     def __init__(self, file, kind, key, name=None):
         self.kind, self.key, self.name = kind, key, name
