@@ -1,12 +1,12 @@
-"""The events of a run, as the lines that `audit` takes: those that `loop` writes. `simulate` writes what nodes do and not the events; where
-those of a simulation itself are wanted (hostile/carriers), a copy of the program in a folder of its own is made to write each event's
-line too, and is built without any proof by `rt try`. That program is used for nothing else."""
+"""The events of a run, as the lines that `audit` takes: the lines that `loop` writes. `simulate` writes what nodes do and not the events. If
+the events of a simulation itself are wanted (hostile/carriers), a copy of the program in a folder of its own is made to write each
+event's line too, and is built without any proof by `rt try`. That program is used for nothing else."""
 import os
 import re
 import shutil
 import subprocess
 
-# Behind this head, in the function by which an event happens in a simulation, its line is written.
+# After this head, in the function by which an event happens in a simulation, its line is written.
 HEAD = re.compile(r"( {4}pub fn happen\(.*?\n {4}\{\n)", re.S)
 LINE = """        match wrp_trace::event_line(alloc, event, self.world.net()) {
             Ok(line) => {
@@ -20,7 +20,7 @@ LINE = """        match wrp_trace::event_line(alloc, event, self.world.net()) {
 
 
 def below(top, name, found):
-    """The crates that a crate stands on, and itself."""
+    """The crates that a crate depends on, and itself."""
     lines = dict(line.split(":", 1) for line in open(f"{top}/crates.txt").read().splitlines() if re.match(r"[a-z]", line))
     names = {key.split()[0]: value.split() for key, value in lines.items()}
 
@@ -50,7 +50,7 @@ def copy(top, folder):
 
 
 def of_run(program, run):
-    """The event lines of a run, which an input of `simulate` describes, as `loop` tells them: it has the same rules, and writes each event behind `= `."""
+    """The event lines of a run, which an input of `simulate` describes, as `loop` writes them: it has the same rules, and writes each event after `= `."""
     ran = subprocess.run([program, "loop", "--seed", "1"], input=run, stdout=subprocess.PIPE, text=True)
     lines = [line[2:] for line in ran.stdout.splitlines() if line.startswith("= ")]
     if ran.returncode or not lines:

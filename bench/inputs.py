@@ -1,5 +1,5 @@
 """What the program is measured on: each input is a text or a capture that is made here, from the examples of this
-repository and from nothing else. What needs the events of a simulated network asks `events.py` for them."""
+repository and from nothing else. What needs the events of a simulated network gets them from `events.py`."""
 import os
 import struct
 import subprocess

@@ -1,4 +1,4 @@
-"""How the tools ask the program: where it is, what bounds it prints for a network, and what its refusals mean in words.
+"""How the tools run the program: where it is, what bounds it prints for a network, and what its refusals mean in words.
 
 They start the built program itself and never the launcher ./wrnet, which would prove it first."""
 import os
@@ -12,7 +12,7 @@ TOP = os.path.dirname(os.path.dirname(os.path.realpath(__file__)))
 BUILT = f"{TOP}/crates/wrnet/out/wrnet"
 HOW = "./wrnet proves and builds it, and WRNET in the environment names another"
 
-# Of each inequality: what has to hold, and what to change where it does not. docs/CONTROL.md has them.
+# Of each inequality: what has to hold, and what to change if it does not. docs/CONTROL.md has them.
 INEQUALITIES = {
     "1": ("(quiet - 1) * dmin > 2 * life", "a longer quiet, or a shorter life_ns"),
     "2": ("(holdover - 1) * dmin > (lease + 1) * dmax + life", "a longer holdover, or a shorter lease"),
@@ -28,7 +28,7 @@ IN_TICKS = "57"
 
 
 def program():
-    """The program to ask: what the environment names as WRNET, else the built one; None where there is none."""
+    """The program to run: what the environment names as WRNET, else the built one; None if there is none."""
     named = os.environ.get("WRNET")
     return named or (BUILT if os.access(BUILT, os.X_OK) else None)
 
@@ -45,7 +45,7 @@ def run(path, words, octets, seconds=60):
 
 
 def bounds(path, network):
-    """The BOUND of each node as the program prints it for a network text, or its last line where it refuses that."""
+    """The BOUND of each node as the program prints it for a network text, or its last line if it refuses that."""
     octets = network.encode() if isinstance(network, str) else network
     status, lines = run(path, ["simulate", "--seed", "1"], octets + b"\n---\nlength,0\n")
     if status in (2, 8) and lines and lines[-1].startswith(("bad-network ", "too-large ")):
@@ -78,7 +78,7 @@ def in_short(line):
 
 
 def table_at(file, place):
-    """The kind and the table of a place, as module.2.pair.1, and the key that stands last in it, if any."""
+    """The kind and the table of a place, as module.2.pair.1, and the last key in it, if any."""
     parts = place.split(".")
     kind, table = parts[0], file.get(parts[0]) if isinstance(file, dict) else None
     if kind == "network":

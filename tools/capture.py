@@ -32,7 +32,7 @@ class Packet:
         self.kind = self.fault = None
 
     def sender(self):
-        """The sourcePortIdentity, as inspect writes it, or None where the frame is too short to have one."""
+        """The sourcePortIdentity, as inspect writes it, or None if the frame is too short to have one."""
         return port_identity(self.frame, 20)
 
     def target(self):
@@ -50,7 +50,7 @@ def port_identity(frame, at):
 
 
 def program():
-    """The program to ask: what the environment names as WRNET, or else the built one. The launcher ./wrnet would prove it first."""
+    """The program to run: what the environment names as WRNET, or else the built one. The launcher ./wrnet would prove it first."""
     named = os.environ.get("WRNET") or BUILT
     if not os.access(named, os.X_OK) or os.path.isdir(named):
         raise Refused(f"there is no program {named}: ./wrnet proves and builds it, and WRNET in the environment names another")
@@ -67,7 +67,7 @@ def ask(words, octets):
 
 
 def frame_of(octets):
-    """The PTP frame of a packet, from its header on, or None where it carries none."""
+    """The PTP frame of a packet, from its header on, or None if it carries none."""
     at = 16 if octets[12:14] == VLAN else 12
     return octets[at + 2 :] if octets[at : at + 2] == PTP else None
 

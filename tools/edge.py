@@ -1,10 +1,10 @@
 """Events of a network over true time, each error at the limit that its premise sets and all of them to the same side.
 
 What is here is the world of docs/WORLD.md: clocks, fibres, modules, stamps, tags and beat bits. What a node makes of them is not
-computed: the frames that nodes put out, and the states of their servos, are what the program prints (tools/worst asks it).
+computed: the frames that nodes send, and the states of their servos, are what the program prints (tools/worst runs it).
 
 All nodes tick together, `dmax_ns` apart. At a tick come, in this order, the ticks, the samples, the frames that arrived since the
-tick before, and the departures of all frames that nodes have put out since."""
+tick before, and the departures of all frames that nodes have sent since."""
 from keys import KEYS
 from network import TAU_IN_NS, TAU_IN_PS, Fault
 
@@ -57,7 +57,7 @@ class Link:
 
 class Plan:
     """What is chosen: where each clock starts, in tau from its parent's; how many ticks there are; for how many of the last ones
-    no frame departs or is handed over; how many of these have no sample; and how far each clock is pushed in the others."""
+    no frame departs or is delivered; how many of these have no sample; and how far each clock is pushed in the others."""
 
     def __init__(self, ticks, starts, silent=0, unsampled=0, pushes=None):
         self.ticks, self.starts, self.silent, self.unsampled, self.pushes = ticks, starts, silent, unsampled, pushes or {}
@@ -81,11 +81,11 @@ class Edge:
             raise Fault("a fibre of this network may delay a frame by more than a tick")
 
     def start_of(self, name, starts):
-        """The offset with which a node comes up: its own part and those of all nodes above it."""
+        """The offset with which a node comes up: its own part and the parts of all nodes above it."""
         return sum(starts.get(it, 0) for it in self.network.on_the_way(name))
 
     def events(self, plan, sent):
-        """The event lines of a plan. `sent` has for each node and tick the ports at which frames are put out."""
+        """The event lines of a plan. `sent` has for each node and tick the ports at which frames are sent."""
         return Course(self, plan, sent).lines
 
 

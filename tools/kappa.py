@@ -1,6 +1,6 @@
 """The asymmetry of two strands from the records of `calibrate`: by its rule, and the exact interval that the records allow.
 
-The delays of the ports p and q and of the strands x and y keep the stated errors where each of these is in an interval: p, q, p + x,
+The delays of the ports p and q and of the strands x and y keep the stated errors if each of these is in an interval: p, q, p + x,
 q + y, p + y and q + x. With p and q negated each of them is the difference of two unknowns, or of an unknown and 0. So the shortest
 ways between the unknowns give the least and the greatest of each difference, among them x - y, in which p and q cancel."""
 from network import Fault
@@ -43,7 +43,7 @@ class Records:
         return [(max(a[0] - p[1], b[0] - q[1]), min(a[1] - p[0], b[1] - q[0])) for a, p, b, q in found]
 
     def closed(self):
-        """The greatest value of each difference of two of 0, x, y, -p and -q, or None where no delays keep the errors."""
+        """The greatest value of each difference of two of 0, x, y, -p and -q, or None if no delays keep the errors."""
         zero, x, y, p, q = range(5)
         (f, g), (h, k) = self.sums["straight"], self.sums["swapped"]
         greatest = {(a, b): 0 if a == b else None for a in range(5) for b in range(5)}
@@ -58,7 +58,7 @@ class Records:
         return None if any(greatest[it, it] < 0 for it in range(5)) else greatest
 
     def exact(self):
-        """The exact interval of kappa, rounded outward, or None where no delays keep the errors of all records together. The share of
+        """The exact interval of kappa, rounded outward, or None if no delays keep the errors of all records together. The share of
         x grows with x and falls as y grows, so its ends are at corners."""
         greatest = self.closed()
         if greatest is None:

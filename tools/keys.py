@@ -72,10 +72,10 @@ KEYS = {
         "table_err": Key("tau", 0, 10**9, 0),
     },
 }
-# The keys whose values are no number; those of a module are of version 1.
+# The keys whose values are no number; the keys of a module are of version 1.
 OTHERS = {"network": [], "node": ["name", "identity"], "link": ["name", "upper", "lower", "fibre", "upper_module", "lower_module", "wr"],
           "module": ["name"], "fibre": ["name", "table"]}
-# The keys that have a share in the bound. A node's count where it is on the way from the grandmaster, and some of them only
+# The keys that have a share in the bound. A node's count if it is on the way from the grandmaster, and some of them only
 # below the grandmaster.
 BELOW = ["beat", "slew", "held"]
 SHARES = {"network": ["track_tau", "loop_tau", "dmax_ns", "gap", "age", "life_ns", "reach_ns", "holdover", "period_ps"],
@@ -92,7 +92,7 @@ def spelled(tau):
 
 class Number:
     """A number of a network file: a key of the network, of one node, link, module or fibre, or of all of a kind. A key of
-    a module is that of each of its entries."""
+    a module is the key of each of its entries."""
 
     def __init__(self, file, kind, key, name=None):
         self.kind, self.key, self.name = kind, key, name
@@ -102,7 +102,7 @@ class Number:
             self.label = f"{kind}.{name}.{key}"
 
     def tables(self, file):
-        """The tables of a file in which this number stands."""
+        """The tables of a file that have this number."""
         if self.kind == "network":
             return [file.setdefault("network", {})]
         found = [it for it in file.get(self.kind, []) if self.name in (None, it.get("name"))]
@@ -204,7 +204,7 @@ def with_settings(file, settings):
 
 
 def numbers_of(network, name):
-    """Each number that has a share in a node's bound: of all of a kind where there are several, and of each."""
+    """Each number that has a share in a node's bound: of all of a kind if there are several, and of each."""
     file, way = network.file, network.on_the_way(name)
     used = {"node": way, "module": [it["name"] for it in file.get("module", [])],
             "fibre": [it["name"] for it in file.get("fibre", []) if it["name"] in {network.above[node]["fibre"] for node in way[:-1]}]}

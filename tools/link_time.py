@@ -41,7 +41,7 @@ class Broken:
 
 
 class LinkTime:
-    """The times of a link of a network, both ends with the counts of [network]; K is None where it is not known."""
+    """The times of a link of a network, both ends with the counts of [network]; K is None if it is not known."""
 
     def __init__(self, file, lock):
         self.lock = lock
@@ -57,7 +57,7 @@ class LinkTime:
         self.announce = self.counts["announce"] * self.dmax + self.delay
 
     def time(self, order):
-        """The stated time, without K where K is not known."""
+        """The stated time, without K if K is not known."""
         waits = 0 if order == KEPT else 2 * self.counts["wait"]
         return (self.counts["quiet"] + waits + 2) * self.dmax + self.announce + 6 * self.delay + (self.lock or 0)
 
@@ -73,7 +73,7 @@ class LinkTime:
         return self.patience("lock_wait") - 2 * self.delay - self.dmin
 
     def inequalities(self, order):
-        """The inequalities that the law asks, in the order of the page."""
+        """The inequalities of the law, in the order of the page."""
         wait, retries, lock_wait = (self.counts[key] for key in ("wait", "retries", "lock_wait"))
         two, round_trip = self.dmin * (1 + retries), 2 * self.delay + self.dmin
         if order == NOT_KEPT:
@@ -129,7 +129,7 @@ def show(network, names, path, lock):
 
 
 def records(network, names, lock):
-    """The same as records, times in ns; a time is without K where K is not known."""
+    """The same as records, times in ns; a time is without K if K is not known."""
     times = LinkTime(network.file, lock)
     for name in names:
         link = network.above[name]

@@ -20,7 +20,7 @@ def up(number, divisor):
 
 
 class Network:
-    """The numbers of a network file, with the defaults of those that it leaves out."""
+    """The numbers of a network file, with the defaults of the ones that it leaves out."""
 
     def __init__(self, file):
         self.file = file
@@ -39,7 +39,7 @@ class Network:
         return max(node["slew"], node["held"]) if name in self.above else 0
 
     def entry(self, module, sent, received):
-        """A module's entry for two wavelengths, or None where it has none."""
+        """A module's entry for two wavelengths, or None if it has none."""
         if self.file.get("version", 1) == 1:
             return module
         pairs = {(it["tx_nm"], it["rx_nm"]): it for it in module["pair"]}
@@ -74,7 +74,7 @@ class Network:
         return self.parts(name)[1]
 
     def parts(self, name):
-        """The parts of a node's hop, and those of its error of both ways."""
+        """The parts of a node's hop, and the parts of its error of both ways."""
         link, node, parent = self.above[name], self.nodes[name], self.nodes[self.parent(name)]
         fibre = next(it for it in self.file["fibre"] if it["name"] == link["fibre"])
         numbers, dmax = self.numbers, self.numbers["dmax_ns"] * TAU_IN_NS
@@ -122,7 +122,7 @@ class Network:
 
 
 def split_input(octets):
-    """An input in two: the octets before its line `---`, and those after it."""
+    """An input in two: the bytes before its line `---`, and the bytes after it."""
     line = re.search(rb"^---\r?$\n?", octets, re.M)
     return (octets[: line.start()], octets[line.end() :]) if line else (octets, b"")
 
@@ -138,7 +138,7 @@ def decoded(octets):
 
 
 def network_text(path):
-    """What stands before the line `---` of an input, or all of a network file."""
+    """What is before the line `---` of an input, or all of a network file."""
     with open(path, "rb") as it:
         octets, _ = split_input(it.read(TEXT_LIMIT + 16))
     if len(octets) > TEXT_LIMIT:

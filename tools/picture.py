@@ -8,7 +8,7 @@ from run_lines import Refused
 WIDTH, LEFT, RIGHT = 1180, 104, 36
 MOST_PIXELS = 32_000
 INK, GREY, FAINT = "#222222", "#666666", "#e4e4e4"
-# The colours of Okabe and Ito, which readers who cannot tell red from green tell apart.
+# The colours of Okabe and Ito, which readers who cannot tell red from green can distinguish.
 ORANGE, SKY, GREEN, YELLOW, BLUE, VERMILLION, PURPLE = "#E69F00", "#56B4E9", "#009E73", "#F0E442", "#0072B2", "#D55E00", "#CC79A7"
 CURVES = [(colour, dash) for dash in ("", "6 3", "2 3") for colour in (BLUE, ORANGE, "#000000", PURPLE, SKY)]
 NARROW = {**dict.fromkeys("ijl", 0.28), **dict.fromkeys(" .,:'", 0.33), **dict.fromkeys("frt-\u203a()", 0.42), "s": 0.53, "m": 0.98, "w": 0.82, "\u2212": 0.84}

@@ -82,6 +82,6 @@ def write(text):
 
 
 def say(sentence):
-    """Tells standard error, if there is one."""
+    """Writes to standard error, if there is one."""
     with contextlib.suppress(OSError):
         print(sentence, file=sys.stderr or open(os.devnull, "w"))

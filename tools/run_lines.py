@@ -101,7 +101,7 @@ class Node:
         self.chain += 1
 
     def stretches(self, told):
-        """What was told as stretches: from where to where it held. None goes past the end of a life."""
+        """What was reported as stretches: from where to where it held. None goes past the end of a life."""
         found = []
         for (time, what), after in zip(told, [*told[1:], None]):
             end = max((it[1] for it in self.lives if it[0] <= time), default=time)
@@ -237,7 +237,7 @@ def shown(line):
 
 
 def read_run(lines, what, tick, period, window=(0.0, math.inf)):
-    """The run that lines tell of. `what` is what the lines are called in a refusal, `tick` the nominal tick in s, `period` the
+    """The run that lines describe. `what` is what the lines are called in a refusal, `tick` the nominal tick in s, `period` the
     period of the clocks in tau, and `window` the times between which offsets are computed."""
     run, at = Run(tick, period, window), 0
     for at, whole in enumerate(lines, 1):

@@ -1,11 +1,11 @@
 """Runs of `simulate` with many seeds, one after the other, as tools/campaign starts them on each machine.
 
-It is started with the program, an input, the number of the input, and the first and the last seed. It stands alone, since a
+It is started with the program, an input, the number of the input, and the first and the last seed. It uses no other file, since a
 machine gets it without the other tools. For each run it prints one line:
 
     INPUT SEED STATUS NODE:PORT:LINK_ON:TRACK:TRACKS:WORST:BOUND:STATE ..
 
-with the ticks of the first `link-on` of each port and of the first `track` of the servo, or `-` where there is none. Of a run
+with the ticks of the first `link-on` of each port and of the first `track` of the servo, or `-` if there is none. Of a run
 that ends with another status than 0 there are no nodes."""
 import re
 import signal

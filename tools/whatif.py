@@ -38,7 +38,7 @@ class Asked:
         return self.known[number.label, value]
 
     def halved(self, number):
-        """The same with a number halved, in each place where it stands."""
+        """The same with a number halved, in each place where it occurs."""
         other = number.changed(self.file, 0)
         for table, value in zip(number.tables(other), number.values(self.file)):
             table[number.key] = value // 2
@@ -52,10 +52,10 @@ class Asked:
 
 class Greatest:
     """The greatest value of a number at which a node's path is at most a target and the network is accepted, if all other
-    numbers stay; and what the program answers for the next value, or for the least one where there is no value.
+    numbers stay; and what the program answers for the next value, or for the least one if there is no value.
 
     A path grows with each number, and an inequality of the network holds from some value of a number on, or up to some value.
-    So the values that are accepted lie side by side, and so do those that keep the target, from the least on."""
+    So the values that are accepted lie side by side, and so do the values that keep the target, from the least on."""
 
     def __init__(self, asked, number, name, target):
         self.asked, self.number, self.name, self.target = asked, number, name, target
@@ -83,7 +83,7 @@ class Greatest:
         return Network(self.number.changed(self.asked.file, value)).path(self.name)
 
     def last(self, choices, holds):
-        """The last of some values that holds, where those that hold come first; None where none does."""
+        """The last of some values that holds, if the values that hold come first; None if none does."""
         low, high = 0, len(choices)
         while low < high:
             middle = (low + high) // 2
@@ -91,7 +91,7 @@ class Greatest:
         return choices[low - 1] if low else None
 
     def first(self, choices, now):
-        """The least value that the program accepts, where it accepts the one that stands now."""
+        """The least value that the program accepts, if it accepts the present one."""
         if self.asked.accepts(self.number, choices[0]):
             return choices[0]
         below = choices[: choices.index(now) + 1]

@@ -1,4 +1,4 @@
-"""Reads the case files of the program of cases, whose format docs/CASES.md tells: their texts, and the words and the input of each case."""
+"""Reads the case files of the program of cases, whose format docs/CASES.md describes: their texts, and the words and the input of each case."""
 import os
 import re
 
@@ -9,7 +9,7 @@ PARTS = ("words", "word", "room", "source", "sink", "gives", "takes", "left", "c
 
 
 class Case:
-    """A case, or a text: its kind and name, its words, its input, the number that is due, and what it sets."""
+    """A case, or a text: its kind and name, its words, its input, the expected number, and what it sets."""
 
     def __init__(self, kind, name):
         self.kind, self.name, self.words, self.input, self.status, self.sets = kind, name, [], b"", 0, {}
@@ -17,7 +17,7 @@ class Case:
 
 
 def piece(texts, how, rest):
-    """The octets that a line of an input stands for."""
+    """The bytes that a line of an input stands for."""
     if how == "":
         return rest.encode() + b"\n"
     if how == "-":
@@ -59,7 +59,7 @@ def ended(case, texts):
 
 
 def cases_of(name, texts):
-    """The cases and the texts of a file; the texts of earlier files are given, and those of this one are put to them."""
+    """The cases and the texts of a file; the texts of earlier files are given, and the texts of this one are added to them."""
     case, found = None, []
     with open(f"{DATA}/{name}", encoding="utf-8") as file:
         lines = file.read().split("\n")

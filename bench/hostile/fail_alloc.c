@@ -1,5 +1,5 @@
 /* Loaded ahead of the C library: the allocation whose number the environment names as FAIL_ALLOC, counted from 1, finds no
-   memory. How many allocations were asked for stands in the file that FAIL_ALLOC_COUNT names, at the end. */
+   memory. At the end the file that FAIL_ALLOC_COUNT names has the number of allocations that were requested. */
 #define _GNU_SOURCE
 #include <dlfcn.h>
 #include <errno.h>
