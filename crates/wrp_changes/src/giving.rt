@@ -77,10 +77,20 @@ fn give_by(
     match event {
         Event::Tick { node } => list(plant, gift_of_tick(plant, *node), outs, aside),
         Event::Sample { node, base, bits } => {
-            list(plant, gift_of_sample(plant, *node, *base, *bits), outs, aside)
+            list(
+                plant,
+                gift_of_sample(plant, *node, *base, *bits),
+                outs,
+                aside,
+            )
         }
         Event::Depart { node, port, stamp } => {
-            list(plant, gift_of_departure(plant, *node, *port, *stamp), outs, aside)
+            list(
+                plant,
+                gift_of_departure(plant, *node, *port, *stamp),
+                outs,
+                aside,
+            )
         }
         Event::Deliver { frame } => list(plant, gift_of_frame(plant, *frame), outs, aside),
         Event::Noise {
@@ -88,7 +98,12 @@ fn give_by(
             port,
             bytes,
             raw,
-        } => list(plant, gift_of_noise(plant, *node, *port, bytes, *raw), outs, aside),
+        } => list(
+            plant,
+            gift_of_noise(plant, *node, *port, bytes, *raw),
+            outs,
+            aside,
+        ),
         Event::Down { node } => give_down(plant, *node, outs),
         Event::Up { node, swaps, .. } => give_up(plant, *node, swaps, outs),
         Event::Cut { link } => give_cut(plant, *link, outs),

@@ -42,7 +42,12 @@ pub fn stay(plant: &mut Plant)
 }
 
 /// True time passes, and clocks and fibres move. It takes no memory.
-pub fn pass(plant: &mut Plant, dt: i64, drifts: &ArrayVec<i64, 64>, moves: &ArrayVec<(i64, i64), 63>)
+pub fn pass(
+    plant: &mut Plant,
+    dt: i64,
+    drifts: &ArrayVec<i64, 64>,
+    moves: &ArrayVec<(i64, i64), 63>,
+)
     requires fits { FitsPlant plant.old }
     requires few { plant.old.events + 1 < 2 ^ 32 }
     requires later { pos 0 ≤ℤ dt }

@@ -1,5 +1,5 @@
 -- What is told of a frame that is handed over.
-use Rattle.std.proofs.Common.{◌≡◌, ◌∙◌, refl, ap, sym, subst, if◌then◌else◌, not, ℕ, ℤ, pos, ◌-ℤ◌, Bool, true, false, [], ◌∷◌, Option, None, Some, option_map}
+use Rattle.std.proofs.Common.{◌≡◌, ◌∙◌, refl, ap, sym, subst, if◌then◌else◌, ℕ, ℤ, pos, ◌-ℤ◌, Bool, true, false, [], ◌∷◌, Option, None, Some, option_map}
 use Rattle.std.specs.Int.Signed.{le_z}
 use Rattle.std.specs.Option.{option_or, is_some}
 use Rattle.std.proofs.lemmas.Bool.{false≢true, true≢false}

@@ -55,7 +55,12 @@ fn goes_at(plant: &Plant, place: Place, outs: &mut Vec<NodeOut>) -> Result<(), A
 }
 
 // The carrier of an end comes, over the module of this name.
-fn comes_at(plant: &Plant, place: Place, name: &Name, outs: &mut Vec<NodeOut>) -> Result<(), AllocError>
+fn comes_at(
+    plant: &Plant,
+    place: Place,
+    name: &Name,
+    outs: &mut Vec<NodeOut>,
+) -> Result<(), AllocError>
     requires fits { FitsPlant plant.now }
     requires link { place.link < length plant.now.net.cfg.links.items }
     ensures { OnOk result (Adds plant.now 1

@@ -25,7 +25,11 @@ fn upper_end(link: u8) -> Place
 }
 
 /// The carrier of a link goes at this end and then at the other, where the link has it.
-pub fn goes_if_carried(plant: &Plant, place: Place, outs: &mut Vec<NodeOut>) -> Result<(), AllocError>
+pub fn goes_if_carried(
+    plant: &Plant,
+    place: Place,
+    outs: &mut Vec<NodeOut>,
+) -> Result<(), AllocError>
     requires fits { FitsPlant plant.now }
     requires link { place.link < length plant.now.net.cfg.links.items }
     ensures { OnOk result (Adds plant.now 2

@@ -99,7 +99,12 @@ fn said_broken(
 }
 
 // Octets that say this are handed to a port.
-fn heard_broken(plant: &Plant, n: u8, port: u16, says: &Result<PtpMsg, FrameFault>) -> Option<Breach>
+fn heard_broken(
+    plant: &Plant,
+    n: u8,
+    port: u16,
+    says: &Result<PtpMsg, FrameFault>,
+) -> Option<Breach>
     requires { FitsPlant plant.now }
     ensures { (s : Setting) (w : WorldAt) → PlantIs s w plant.now → s.set n ≡ set.set_of s.cfg n
         → result ≡ told_of (premise.noise_checks s w n port says.now (place_in s n port)) }

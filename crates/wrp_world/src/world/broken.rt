@@ -6,8 +6,8 @@ ghost use Rattle.wrp_world.specs.Step.{TellsBreach};
 use super::World;
 use wrp_course::{Breach, Event};
 use wrp_premises::{
-    arrive_broken, cut_broken, deliver_broken, depart_broken, down_broken, join_broken, noise_broken,
-    sample_broken, tick_broken, up_broken,
+    arrive_broken, cut_broken, deliver_broken, depart_broken, down_broken, join_broken,
+    noise_broken, sample_broken, tick_broken, up_broken,
 };
 
 impl<F: Fn(i64) -> i64> World<F> {

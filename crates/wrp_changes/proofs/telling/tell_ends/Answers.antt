@@ -1,6 +1,4 @@
-use Rattle.std.proofs.Common.{◌≡◌, ◌∙◌, ap, sym, subst, to_z, of_z, arith}
-use Rattle.std.proofs.lemmas.Int.{to_z-of_z}
-use Rattle.std.specs.Int.{w128}
+use Rattle.std.proofs.Common.{sym, subst, arith}
 use Rattle.wrp_changes.specs.Moves.{EachBecame}
 use Rattle.wrp_changes.specs.PlantTold.{TellsAt}
 use Rattle.wrp_changes.specs.Room.{HasRoom}

@@ -1,7 +1,5 @@
-use Rattle.std.proofs.Common.{◌≡◌, ℕ, ◌<◌, Some, slice_get, arith}
+use Rattle.std.proofs.Common.{arith}
 use Rattle.std.proofs.lemmas.Option.{slice_get_within}
-use Rattle.wrp_node.specs.declared.ports.states.PortState.{PortState}
-use Rattle.wrp_changes.specs.PlantTold.{SameRow}
 use Rattle.wrp_changes.proofs.QuietSteps.{same_states}
 use Rattle.wrp_changes.proofs.telling.reads.are_same.Goals as goal
 

@@ -1,4 +1,4 @@
-use Rattle.std.proofs.Common.{◌≡◌, ◌∙◌, sym, ◌==◌}
+use Rattle.std.proofs.Common.{◌∙◌, sym, ◌==◌}
 use Rattle.wrp_plant.proofs.FoundLinks.{some_found}
 use Rattle.wrp_plant.proofs.plant.tops.has_own_link.Goals as goal
 
