@@ -7,13 +7,15 @@ mod listing;
 mod single;
 mod up;
 
-ghost use Rattle.std.specs.Prelude.{◌≡◌, ◌≤◌, ◌<◌, ◌+◌, ◌^◌, ℕ, length, OnOk, Result};
+ghost use Rattle.std.specs.Prelude.{◌≡◌, ◌≤◌, ◌<◌, ◌+◌, ◌^◌, [], ℕ, length, OnOk, Result};
 ghost use Rattle.std.specs.List.{AllByRecursion};
 ghost use Rattle.wrp_base.specs.declared.message.PtpMsg.{PtpMsg};
 ghost use Rattle.wrp_frame.specs.declared.fault.FrameFault.{FrameFault};
+ghost use Rattle.wrp_network.specs.Network.{node_count};
 ghost use Rattle.wrp_node.specs.Set.{set_of};
 ghost use Rattle.wrp_course.specs.declared.event.Event.{Event as EventAt};
-ghost use Rattle.wrp_course.specs.EventAt.{IsEventOf};
+ghost use Rattle.wrp_course.specs.declared.event.Event.TheVariants as event;
+ghost use Rattle.wrp_course.specs.EventAt.{IsEventOf, IsRaw, IsTime};
 ghost use Rattle.wrp_changes.specs.FitsGifts.{FitsGift};
 ghost use Rattle.wrp_changes.specs.Gifts.{AreGifts};
 ghost use Rattle.wrp_changes.specs.Giving.{Gives, entries_of, put_of};
@@ -26,11 +28,11 @@ ghost use Rattle.wrp_course.specs.WorldAt.{WorldAt};
 use down::give_down;
 use frames::{gift_of_departure, gift_of_frame, sent_at};
 use links::{give_cut, give_join};
-use listing::{Gift, put};
+use listing::{Gift, lay_aside, put};
 use single::{gift_of_noise, gift_of_sample, gift_of_tick};
 use std::alloc::AllocError;
 use up::give_up;
-use wrp_base::Tau;
+use wrp_base::{Frame, Raw, Tau};
 use wrp_course::{Event, NodeOut};
 use wrp_plant::Plant;
 
@@ -62,6 +64,106 @@ fn list(
     put(outs, aside, gift)
 }
 
+// Each kind of event that gives one input lists it in a call of its own: the place of an input is cleared when
+// such a call begins, and no other event is to wait for it.
+
+// What a tick gives, listed alone.
+#[inline(never)]
+fn list_tick(
+    plant: &Plant,
+    n: u8,
+    outs: &mut Vec<NodeOut>,
+    aside: &mut Vec<NodeOut>,
+) -> Result<(), AllocError>
+    requires { n < node_count plant.now.net.cfg }
+    ensures { OnOk result (Gives plant.now (event.Tick n) outs.new.items) }
+{
+    list(plant, gift_of_tick(plant, n), outs, aside)
+}
+
+// What a sample gives, listed alone.
+#[inline(never)]
+fn list_sample(
+    plant: &Plant,
+    n: u8,
+    base: u16,
+    bits: u64,
+    outs: &mut Vec<NodeOut>,
+    aside: &mut Vec<NodeOut>,
+) -> Result<(), AllocError>
+    requires fits { FitsPlant plant.now }
+    requires node { n < node_count plant.now.net.cfg }
+    requires base { base ≤ 16_383 }
+    requires few { plant.now.events + 1 < 2 ^ 32 }
+    ensures { OnOk result (Gives plant.now (event.Sample n base bits) outs.new.items) }
+{
+    list(plant, gift_of_sample(plant, n, base, bits), outs, aside)
+}
+
+// What a departure gives, listed alone.
+#[inline(never)]
+fn list_departure(
+    plant: &Plant,
+    n: u8,
+    port: u16,
+    stamp: Tau,
+    outs: &mut Vec<NodeOut>,
+    aside: &mut Vec<NodeOut>,
+) -> Result<(), AllocError>
+    requires fits { FitsPlant plant.now }
+    requires node { n < node_count plant.now.net.cfg }
+    requires stamp { IsTime stamp }
+    ensures { OnOk result (Gives plant.now (event.Depart n port stamp) outs.new.items) }
+{
+    list(plant, gift_of_departure(plant, n, port, stamp), outs, aside)
+}
+
+// What a frame gives as it is handed over, listed alone.
+#[inline(never)]
+fn list_frame(
+    plant: &Plant,
+    number: u32,
+    outs: &mut Vec<NodeOut>,
+    aside: &mut Vec<NodeOut>,
+) -> Result<(), AllocError>
+    requires fits { FitsPlant plant.now }
+    ensures { OnOk result (Gives plant.now (event.Deliver number) outs.new.items) }
+{
+    list(plant, gift_of_frame(plant, number), outs, aside)
+}
+
+// What octets give that the peer did not send, listed alone.
+#[inline(never)]
+fn list_noise(
+    plant: &Plant,
+    n: u8,
+    port: u16,
+    bytes: &Frame,
+    raw: Raw,
+    outs: &mut Vec<NodeOut>,
+    aside: &mut Vec<NodeOut>,
+) -> Result<(), AllocError>
+    requires fits { FitsPlant plant.now }
+    requires node { n < node_count plant.now.net.cfg }
+    requires raw { IsRaw raw }
+    ensures { OnOk result (Gives plant.now (event.Noise n port bytes.now raw) outs.new.items) }
+{
+    list(
+        plant,
+        gift_of_noise(plant, n, port, bytes, raw),
+        outs,
+        aside,
+    )
+}
+
+// Nothing is listed.
+fn list_none(outs: &mut Vec<NodeOut>, aside: &mut Vec<NodeOut>) -> Result<(), AllocError>
+    ensures { OnOk result (outs.new.items ≡ []) }
+{
+    lay_aside(outs, aside);
+    Ok(())
+}
+
 // What an event gives.
 fn give_by(
     plant: &Plant,
@@ -75,41 +177,26 @@ fn give_by(
     ensures { OnOk result (Gives plant.now event.now outs.new.items) }
 {
     match event {
-        Event::Tick { node } => list(plant, gift_of_tick(plant, *node), outs, aside),
+        Event::Tick { node } => list_tick(plant, *node, outs, aside),
         Event::Sample { node, base, bits } => {
-            list(
-                plant,
-                gift_of_sample(plant, *node, *base, *bits),
-                outs,
-                aside,
-            )
+            list_sample(plant, *node, *base, *bits, outs, aside)
         }
         Event::Depart { node, port, stamp } => {
-            list(
-                plant,
-                gift_of_departure(plant, *node, *port, *stamp),
-                outs,
-                aside,
-            )
+            list_departure(plant, *node, *port, *stamp, outs, aside)
         }
-        Event::Deliver { frame } => list(plant, gift_of_frame(plant, *frame), outs, aside),
+        Event::Deliver { frame } => list_frame(plant, *frame, outs, aside),
         Event::Noise {
             node,
             port,
             bytes,
             raw,
-        } => list(
-            plant,
-            gift_of_noise(plant, *node, *port, bytes, *raw),
-            outs,
-            aside,
-        ),
+        } => list_noise(plant, *node, *port, bytes, *raw, outs, aside),
         Event::Down { node } => give_down(plant, *node, outs),
         Event::Up { node, swaps, .. } => give_up(plant, *node, swaps, outs),
         Event::Cut { link } => give_cut(plant, *link, outs),
         Event::Join { link, .. } => give_join(plant, *link, outs),
-        Event::Pass { .. } => list(plant, None, outs, aside),
-        Event::Arrive { .. } => list(plant, None, outs, aside),
+        Event::Pass { .. } => list_none(outs, aside),
+        Event::Arrive { .. } => list_none(outs, aside),
     }
 }
 

@@ -84,6 +84,7 @@ impl LoopCourse {
 impl<F: Fn(i64) -> i64> LoopedNetwork<F> {
     /// A network before its first event, with the laws of the links above its nodes. `AllocError`
     /// if memory runs out: no network is made.
+    #[inline(never)]
     pub fn new(
         alloc: Global,
         net: Network,

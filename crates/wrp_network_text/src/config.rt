@@ -185,6 +185,7 @@ fn gathered(doc: &Table, network: &Table, lists: &Lists) -> NetCfg
 
 /// The network of a text whose tables are taken. `network` is the table `network` of the text, and
 /// `lists` are its modules and fibres.
+#[inline(never)]
 pub fn network_of(doc: &Table, network: &Table, lists: &Lists) -> NetCfg
     requires network { table_view network.now ≡ network_in (table_view doc.now) }
     requires lists { lists.now ≡ database_of (table_view doc.now) }

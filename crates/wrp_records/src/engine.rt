@@ -190,6 +190,18 @@ fn tell_large(alloc: Global, waiting: &mut Vec<u8>, number: u32) -> Ended
     }
 }
 
+// Appends a text. Most records write nothing, and then nothing is done. `AllocError` if memory runs out: nothing
+// is appended.
+fn append_text(waiting: &mut Vec<u8>, text: &[u8]) -> Result<(), AllocError>
+    ensures ok { OnOk result (waiting.new.items ≡ waiting.old.items ++ text.now) }
+    ensures err { OnErr result (waiting.new.items ≡ waiting.old.items) }
+{
+    if text.is_empty() {
+        return Ok(());
+    }
+    waiting.extend_from_slice(text)
+}
+
 // Handles what a line says, given by its parts, as the record of this number.
 fn handle_line<M: Machine>(
     alloc: Global,
@@ -217,7 +229,7 @@ fn handle_line<M: Machine>(
     let Ok(taken) = machine.take(alloc, said, parts, number, text) else {
         return Some(Ended::Memory);
     };
-    if waiting.extend_from_slice(text).is_err() {
+    if append_text(waiting, text).is_err() {
         return Some(Ended::Memory);
     }
     match taken {

@@ -75,6 +75,7 @@ impl Course {
 impl<F: Fn(i64) -> i64> SimulatedNetwork<F> {
     /// A network before its first event, with the laws of the links above its nodes. `AllocError`
     /// if memory runs out: no network is made.
+    #[inline(never)]
     pub fn new(
         alloc: Global,
         net: Network,

@@ -1,6 +1,5 @@
 pub mod ReadInto
 pub mod Texts
-pub mod KindLemmas
 pub mod NumberLemmas
 pub mod DigitLemmas
 pub mod Listed

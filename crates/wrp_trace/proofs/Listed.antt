@@ -28,7 +28,7 @@ found_in p y ys x false is more e =
     let rest = more x e in
     record { passes = rest.passes; place = suc rest.place; stands = rest.stands }
 
-pub found : {X : Type 0} (p : X → Bool) (xs : List X) (x : X) → find p xs ≡ Some x → IsFound p xs x
+found : {X : Type 0} (p : X → Bool) (xs : List X) (x : X) → find p xs ≡ Some x → IsFound p xs x
 found p [] x e = cc e
 found p (y ∷ ys) x e = found_in p y ys x (p y) refl (found p ys) e
 

@@ -1,8 +1,6 @@
 //! The kinds of input lines.
-ghost use Rattle.std.specs.Prelude.{◌≡◌, ◌&&◌, IfSome, true};
-ghost use Rattle.std.specs.List.{find};
-ghost use Rattle.wrp_caldb.specs.Name.{same_name};
-ghost use Rattle.wrp_trace.specs.Kinds.{word_of, field_count, has_kind, kind_of, all_kinds};
+ghost use Rattle.std.specs.Prelude.{◌≡◌, IfSome, true};
+ghost use Rattle.wrp_trace.specs.Kinds.{word_of, field_count, has_kind, kind_of};
 ghost use Rattle.wrp_trace.specs.LineSetting.{line_setting_of};
 
 use crate::line_setting::is_grandmaster;
@@ -59,21 +57,6 @@ impl InputKind {
     }
 }
 
-// All kinds.
-fn all_kinds() -> [InputKind; 7]
-    ensures { result ≡ all_kinds }
-{
-    [
-        InputKind::Tick,
-        InputKind::Sample,
-        InputKind::Frame,
-        InputKind::Sent,
-        InputKind::Up,
-        InputKind::Down,
-        InputKind::Reset,
-    ]
-}
-
 // Whether a node has lines of a kind.
 fn has_kind(net: &Network, node: u8, kind: InputKind) -> bool
     ensures { result ≡ has_kind (line_setting_of net.now node) kind }
@@ -84,30 +67,26 @@ fn has_kind(net: &Network, node: u8, kind: InputKind) -> bool
     }
 }
 
-// Whether a node has lines of a kind, and this is its word.
-fn is_kind(net: &Network, node: u8, kind: InputKind, word: &[u8]) -> bool
-    ensures { result ≡ (same_name (word_of kind) word.now && has_kind (line_setting_of net.now node) kind) }
-{
-    kind.word().as_bytes() == word && has_kind(net, node, kind)
-}
-
-// The first of some kinds that a node has lines of, and whose word this is.
-fn among(kinds: &[InputKind], net: &Network, node: u8, word: &[u8]) -> Option<InputKind>
-    ensures { result ≡ find
-        (λ kind. same_name (word_of kind) word.now && has_kind (line_setting_of net.now node) kind) kinds.now }
-{
-    kinds
-        .iter()
-        .copied()
-        .find(|kind| is_kind(net, node, *kind, word))
-}
-
 /// The kind of a line at a node, by its first field. None if and only if the node has no kind with
 /// this word.
-#[tactic(auto, using(crate::proofs::KindLemmas::has_kind_found))]
+#[tactic(auto, unfolding(crate::specs::Kinds::kind_of))]
 pub fn kind_of(net: &Network, node: u8, word: &[u8]) -> Option<InputKind>
     ensures value { result ≡ kind_of (line_setting_of net.now node) word.now }
     ensures here { IfSome result (λ kind. has_kind (line_setting_of net.now node) kind ≡ true) }
 {
-    among(all_kinds().as_slice(), net, node, word)
+    let kind = match word {
+        b"tick" => InputKind::Tick,
+        b"sample" => InputKind::Sample,
+        b"frame" => InputKind::Frame,
+        b"sent" => InputKind::Sent,
+        b"up" => InputKind::Up,
+        b"down" => InputKind::Down,
+        b"reset" => InputKind::Reset,
+        _ => return None,
+    };
+    if has_kind(net, node, kind) {
+        Some(kind)
+    } else {
+        None
+    }
 }

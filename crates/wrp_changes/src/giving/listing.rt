@@ -24,7 +24,10 @@ fn set(out: &mut NodeOut, gift: Gift)
     out.input = gift.input;
 }
 
-/// An input is listed behind the others.
+/// An input is listed after the others. An entry is large: it is built in a frame of its own, so that no other
+/// event needs room for it.
+#[cold]
+#[inline(never)]
 pub fn add(outs: &mut Vec<NodeOut>, gift: Gift) -> Result<(), AllocError>
     ensures { OnOk result (outs.new.items ≡ outs.old.items ++ (listed gift ∷ [])) }
 {
@@ -56,8 +59,8 @@ fn take_up(outs: &mut Vec<NodeOut>, aside: &mut Vec<NodeOut>) {
     }
 }
 
-// The entries that stand there are laid aside.
-fn lay_aside(outs: &mut Vec<NodeOut>, aside: &mut Vec<NodeOut>)
+/// The entries that were listed are laid aside, and nothing is listed.
+pub fn lay_aside(outs: &mut Vec<NodeOut>, aside: &mut Vec<NodeOut>)
     ensures { outs.new.items ≡ [] }
 {
     if !outs.is_empty() {

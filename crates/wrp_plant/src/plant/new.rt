@@ -27,6 +27,7 @@ const SECOND: i128 = 65_536_000_000_000_000;
 
 impl Plant {
     /// All nodes are down, and all links cut; true time is the epoch.
+    #[inline(never)]
     pub fn new(alloc: Global, net: Network) -> Result<Plant, AllocError>
         requires { IsAccepted net.cfg net.db }
         ensures stands { IfOk result (λ plant. (s : Setting) → net.cfg ≡ s.cfg → net.db ≡ s.db

@@ -1,8 +1,6 @@
 //! The kinds of event lines.
 ghost use Rattle.std.specs.Prelude.{◌≡◌};
-ghost use Rattle.std.specs.List.{find};
-ghost use Rattle.wrp_caldb.specs.Name.{same_name};
-ghost use Rattle.wrp_trace.specs.EventKinds.{word_of, may_have, kind_of, all_kinds};
+ghost use Rattle.wrp_trace.specs.EventKinds.{word_of, may_have, kind_of};
 
 /// A kind of event line.
 #[derive(Clone, Copy, Debug, Default, PartialEq, Eq)]
@@ -72,42 +70,23 @@ impl EventKind {
     }
 }
 
-// All kinds.
-fn all_kinds() -> [EventKind; 11]
-    ensures { result ≡ all_kinds }
-{
-    [
-        EventKind::Pass,
-        EventKind::Tick,
-        EventKind::Sample,
-        EventKind::Depart,
-        EventKind::Arrive,
-        EventKind::Deliver,
-        EventKind::Noise,
-        EventKind::Down,
-        EventKind::Up,
-        EventKind::Cut,
-        EventKind::Join,
-    ]
-}
-
-// Whether this is the word of a kind.
-fn is_word(kind: EventKind, word: &[u8]) -> bool
-    ensures { result ≡ same_name (word_of kind) word.now }
-{
-    kind.word().as_bytes() == word
-}
-
-// The first of some kinds whose word this is.
-fn among(kinds: &[EventKind], word: &[u8]) -> Option<EventKind>
-    ensures { result ≡ find (λ kind. same_name (word_of kind) word.now) kinds.now }
-{
-    kinds.iter().copied().find(|kind| is_word(*kind, word))
-}
-
 /// The kind of a line, by its first field. None if and only if no kind has this word.
+#[tactic(auto, unfolding(crate::specs::EventKinds::kind_of))]
 pub fn kind_of(word: &[u8]) -> Option<EventKind>
     ensures { result ≡ kind_of word.now }
 {
-    among(all_kinds().as_slice(), word)
+    match word {
+        b"pass" => Some(EventKind::Pass),
+        b"tick" => Some(EventKind::Tick),
+        b"sample" => Some(EventKind::Sample),
+        b"depart" => Some(EventKind::Depart),
+        b"arrive" => Some(EventKind::Arrive),
+        b"deliver" => Some(EventKind::Deliver),
+        b"noise" => Some(EventKind::Noise),
+        b"down" => Some(EventKind::Down),
+        b"up" => Some(EventKind::Up),
+        b"cut" => Some(EventKind::Cut),
+        b"join" => Some(EventKind::Join),
+        _ => None,
+    }
 }

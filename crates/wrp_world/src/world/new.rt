@@ -25,6 +25,7 @@ impl<F: Fn(i64) -> i64> World<F> {
     /// All nodes are down, all links are cut, and true time is the epoch. `laws` has a place for each
     /// node, in file order: `None` exactly for the grandmaster, and for each other node a law of the
     /// kind of the link above it, whose error is at most that link's.
+    #[inline(never)]
     pub fn new(
         alloc: Global,
         net: Network,
