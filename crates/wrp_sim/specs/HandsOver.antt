@@ -5,8 +5,8 @@ use Rattle.wrp_course.specs.declared.event.Event.{Event}
 use Rattle.wrp_course.specs.declared.event.Event.TheVariants.{Arrive, Deliver}
 use Rattle.wrp_sim.specs.declared.sim.state.State.{State}
 
--- it is handed over: once less is left of it, and nothing else that the simulator holds changes, except the faults
--- whose turn came in vain
+-- it is handed over: once less is left of it, the node that ticked last is no longer noted, and nothing else that the
+-- simulator holds changes, except the faults whose turn came in vain
 pub record HandedOnce (old new : State) (i : ℕ) : Type 0 where
   pub frame : i ≡ old.arrived.frame
   pub same : new.arrived.frame ≡ i
