@@ -1,4 +1,4 @@
-use Rattle.std.proofs.Common.{◌≡◌, ◌∙◌, ap, ap₂, sym, ℕ, Bool, if◌then◌else◌, Option, None, Some}
+use Rattle.std.proofs.Common.{◌∙◌, ap, ap₂, sym, ℕ, Bool, if◌then◌else◌, Option, None, Some}
 use Rattle.wrp_world.specs.declared.steer.Steer.{Steer}
 use Rattle.wrp_world.specs.Steered.{steering_in}
 use Rattle.wrp_world.proofs.world.World.steering.Goals as goal
