@@ -1,28 +1,36 @@
 -- Frames that are lost one after the other.
-use Rattle.std.proofs.Common.{◌≡◌, ◌∙◌, refl, ap, sym, subst, ℕ, ◌+◌, ◌<◌, ◌≤◌, ◌==◌, ◌||◌, ◌&&◌, ◌⊎◌, inl, inr, ℤ, Bool, true, false, cond, if◌then◌else◌, List, [], ◌∷◌, length, drop, filter, Option, None, Some, option_map, slice_index_or}
+use Rattle.std.proofs.Common.{◌≡◌, ◌∙◌, refl, ap, sym, subst, ℕ, ◌+◌, ◌<◌, ◌≤◌, ◌==◌, ◌||◌, ◌&&◌, ◌⊎◌, not, inl, inr, ℤ, Bool, true, false, cond, if◌then◌else◌, List, [], ◌∷◌, length, drop, filter, Option, None, Some, option_map, slice_index_or}
 use Rattle.std.proofs.Math.ListN.{drop_of_length-le}
 use Rattle.std.proofs.lemmas.List.{drop_more}
 use Rattle.std.specs.BTreeMap.{is_at}
-use Rattle.std.specs.Cmp.{unsigned_tied}
 use Rattle.std.specs.Option.{is_some, option_map_or}
 use Rattle.std.specs.Ordering.{nat_cmp}
 use Rattle.wrp_base.specs.declared.link.Role.{Role}
 use Rattle.wrp_network.specs.declared.network.LinkCfg.{LinkCfg}
 use Rattle.wrp_flights.specs.declared.departed.Departed.{Departed}
+use Rattle.wrp_flights.specs.declared.departed.OnFibre.{OnFibre}
 use Rattle.wrp_flights.specs.declared.departed.Reception.{Reception}
 use Rattle.wrp_flights.specs.declared.losing.Loss.{Loss}
 use Rattle.wrp_flights.specs.declared.losing.Loss.TheVariants.{Link, Node, Older}
 use Rattle.wrp_flights.specs.Departed.{is_kept, is_on, is_young, kept_in, lost, receive, turn_in}
 use Rattle.wrp_flights.specs.Frames.{at, on_at}
-use Rattle.wrp_flights.specs.Listing.{Lists, Settled, has_number}
-use Rattle.wrp_flights.specs.Losing.{arrives_by, is_older, lost_by, meets}
+use Rattle.wrp_flights.specs.Listing.{IsAmong, Lists, Settled, entry_of, is_other}
+use Rattle.wrp_flights.specs.Losing.{arrives_by, hits, is_older, lost_by, meets}
 use Rattle.wrp_flights.proofs.Passing.{same_number}
-use Rattle.wrp_flights.proofs.Putting.{equal_numbers}
-use Rattle.wrp_flights.proofs.Staying.{CameFrom, Stills, came_from}
+use Rattle.wrp_flights.proofs.Putting.{at_itself, equal_numbers}
+use Rattle.wrp_flights.proofs.Staying.{CameFrom, Stills, came_from, kept_is_it, kept_young}
 
--- each frame is lost already, or is as it was with its number still to come
-pub record Losing (h : ℤ) (change : ℕ → Departed → Departed) (before now : List (ℕ × Departed)) (left : List ℕ) : Type 0 where
-  pub each : (q : ℕ) → (at q now ≡ turn_in h (change q) (at q before)) ⊎ ((at q now ≡ at q before) × (has_number q left ≡ true))
+-- a frame with this number is as it was, on a fibre, and among those that are still to come
+pub record Waits (q : ℕ) (before now : Option Departed) (left : List OnFibre) : Type 0 where
+  pub frame : Departed
+  pub was : before ≡ Some frame
+  pub same : now ≡ before
+  pub on : is_on frame ≡ true
+  pub among : IsAmong (entry_of q frame) left
+
+-- each frame is lost already, or is still to come
+pub record Losing (h : ℤ) (change : ℕ → Departed → Departed) (before now : List (ℕ × Departed)) (left : List OnFibre) : Type 0 where
+  pub each : (q : ℕ) → (at q now ≡ turn_in h (change q) (at q before)) ⊎ Waits q (at q before) (at q now) left
 
 -- losing a frame twice is the same as losing it once, and only frames on a fibre are lost
 pub record Loses (change : ℕ → Departed → Departed) : Type 0 where
@@ -93,94 +101,129 @@ in_again h change again (Some d) = by_test (is_kept h (change d)) refl where
 
 -- The loop
 
+no : false ≡ true → ⊥
+no e = cc
+
 young_kept : (h : ℤ) (d : Departed) → is_on d ≡ false → is_young h d ≡ true → is_kept h d ≡ true
 young_kept h d off y = ap (λ b. if b then true else is_young h d) off ∙ y
 
-unlisted : (h : ℤ) (change : Departed → Departed) (off : (d : Departed) → is_on d ≡ false → change d ≡ d) (o : Option Departed) (b : Bool) →
-    ((d : Departed) → o ≡ Some d → (b ≡ true) ⊎ ((is_on d ≡ false) × (is_young h d ≡ true))) → b ≡ false → o ≡ turn_in h change o
-unlisted h change off None b settled e = refl
-unlisted h change off (Some d) b settled e = elim (settled d refl) [
-  | inl listed ↦ absurd (no (sym e ∙ listed))
-  | inr it ↦ sym (ap (λ x. kept_in h (Some x)) (off d it.0) ∙ kept_some h d (young_kept h d it.0 it.1))
-] where
-  no : false ≡ true → ⊥
-  no e = cc
+on_is_kept : (h : ℤ) (d : Departed) → is_on d ≡ true → is_kept h d ≡ true
+on_is_kept h d on = ap (λ b. if b then true else is_young h d) on
 
-pub losing_none : (h : ℤ) (change : ℕ → Departed → Departed) (kept : List (ℕ × Departed)) (numbers : List ℕ) → Loses change → Settled h kept numbers → Losing h change kept kept numbers
-losing_none h change kept numbers c s = record { each = λ q. by_test q (has_number q numbers) refl } where
-  by_test : (q : ℕ) (b : Bool) → has_number q numbers ≡ b → (at q kept ≡ turn_in h (change q) (at q kept)) ⊎ ((at q kept ≡ at q kept) × (has_number q numbers ≡ true))
-  by_test q true e = inr (refl, e)
-  by_test q false e = inl (unlisted h (change q) (c.off q) (at q kept) (has_number q numbers) (s q) e)
+settled_one : (h : ℤ) (change : Departed → Departed) → ((d : Departed) → is_on d ≡ false → change d ≡ d) → (q : ℕ) (o : Option Departed) (listed : List OnFibre) →
+    ((d : Departed) → o ≡ Some d → ((is_on d ≡ true) × IsAmong (entry_of q d) listed) ⊎ ((is_on d ≡ false) × (is_young h d ≡ true))) →
+    (o ≡ turn_in h change o) ⊎ Waits q o o listed
+settled_one h change off q None listed s = inl refl
+settled_one h change off q (Some d) listed s = elim (s d refl) [
+  | inl it ↦ inr (record { frame = d; was = refl; same = refl; on = it.0; among = it.1 })
+  | inr it ↦ inl (sym (ap (λ x. kept_in h (Some x)) (off d it.0) ∙ kept_some h d (young_kept h d it.0 it.1)))
+]
 
-tied : (n q : ℕ) → is_at (nat_cmp n) q ≡ (n == q)
-tied n q = unsigned_tied n q
+pub losing_none : (h : ℤ) (change : ℕ → Departed → Departed) (kept : List (ℕ × Departed)) (listed : List OnFibre) → Loses change → Settled h kept listed → Losing h change kept kept listed
+losing_none h change kept listed c s = record { each = λ q. settled_one h (change q) (c.off q) q (at q kept) listed (s q) }
 
-other_left : (n q : ℕ) (left : List ℕ) (b : Bool) → (n == q) ≡ b → b ≡ false → has_number q (n ∷ left) ≡ true → has_number q left ≡ true
-other_left n q left true e f g = absurd cc
-other_left n q left false e f g = sym (ap (λ x. x || has_number q left) e) ∙ g
+-- a listed frame is one of those that are lost
+hit : (h : ℤ) (change : ℕ → Departed → Departed) (before now after : List (ℕ × Departed)) (it : OnFibre) (left : List OnFibre) → Loses change →
+    ((q : ℕ) → at q after ≡ cond (is_at (nat_cmp it.number) q) (turn_in h (change it.number) (at q now)) (at q now)) →
+    Losing h change before now (it ∷ left) → Losing h change before after left
+hit h change before now after it left c e p = record { each = λ q. by_test q (is_at (nat_cmp it.number) q) refl (e q) } where
+  other : (q : ℕ) (d : Departed) → is_at (nat_cmp it.number) q ≡ false → it ≡ entry_of q d → ⊥
+  other q d x is = no (sym x ∙ at_itself it.number q (ap (λ (y : OnFibre). y.number) is))
 
-step : (h : ℤ) (change : ℕ → Departed → Departed) (before now after : List (ℕ × Departed)) (n : ℕ) (left : List ℕ) → Loses change →
-    ((q : ℕ) → at q after ≡ cond (is_at (nat_cmp n) q) (turn_in h (change n) (at q now)) (at q now)) → Losing h change before now (n ∷ left) → Losing h change before after left
-step h change before now after n left c e p = record { each = λ q. by_test q (is_at (nat_cmp n) q) refl (e q) } where
-  by_test : (q : ℕ) (b : Bool) → is_at (nat_cmp n) q ≡ b → at q after ≡ cond b (turn_in h (change n) (at q now)) (at q now) →
-      (at q after ≡ turn_in h (change q) (at q before)) ⊎ ((at q after ≡ at q before) × (has_number q left ≡ true))
+  by_place : (q : ℕ) → is_at (nat_cmp it.number) q ≡ false → at q after ≡ at q now → (w : Waits q (at q before) (at q now) (it ∷ left)) →
+      (it ≡ entry_of q w.frame) ⊎ IsAmong (entry_of q w.frame) left → Waits q (at q before) (at q after) left
+  by_place q x g w (inl is) = absurd (other q w.frame x is)
+  by_place q x g w (inr more) = record { frame = w.frame; was = w.was; same = g ∙ w.same; on = w.on; among = more }
+
+  by_test : (q : ℕ) (b : Bool) → is_at (nat_cmp it.number) q ≡ b → at q after ≡ cond b (turn_in h (change it.number) (at q now)) (at q now) →
+      (at q after ≡ turn_in h (change q) (at q before)) ⊎ Waits q (at q before) (at q after) left
   by_test q true x g =
-      let same : at q after ≡ turn_in h (change q) (at q now) = g ∙ ap (λ m. turn_in h (change m) (at q now)) (same_number n q x) in
+      let same : at q after ≡ turn_in h (change q) (at q now) = g ∙ ap (λ m. turn_in h (change m) (at q now)) (same_number it.number q x) in
       elim (p.each q) [
         | inl done ↦ inl (same ∙ ap (turn_in h (change q)) done ∙ in_again h (change q) (c.again q) (at q before))
-        | inr still ↦ inl (same ∙ ap (turn_in h (change q)) still.0)
+        | inr w ↦ inl (same ∙ ap (turn_in h (change q)) w.same)
       ]
   by_test q false x g = elim (p.each q) [
     | inl done ↦ inl (g ∙ done)
-    | inr same ↦ inr (g ∙ same.0, other_left n q left (n == q) refl (sym (tied n q) ∙ x) same.1)
+    | inr w ↦ inr (by_place q x g w w.among)
   ]
 
-pub losing_next : (h : ℤ) (change : ℕ → Departed → Departed) (before now after : List (ℕ × Departed)) (numbers : List ℕ) (i : ℕ) → Loses change → i < length numbers →
-    ((q : ℕ) → at q after ≡ cond (is_at (nat_cmp (slice_index_or numbers i 0)) q) (turn_in h (change (slice_index_or numbers i 0)) (at q now)) (at q now)) →
-    Losing h change before now (drop i numbers) → Losing h change before after (drop (i + 1) numbers)
-losing_next h change before now after numbers i c l e p =
-    step h change before now after (slice_index_or numbers i 0) (drop (i + 1) numbers) c e (subst (Losing h change before now) (drop_more numbers i 0 l) p)
+pub losing_hit : (h : ℤ) (change : ℕ → Departed → Departed) (before now after : List (ℕ × Departed)) (listed : List OnFibre) (i : ℕ) (d : OnFibre) → Loses change → i < length listed →
+    ((q : ℕ) → at q after ≡ cond (is_at (nat_cmp (slice_index_or listed i d).number) q) (turn_in h (change (slice_index_or listed i d).number) (at q now)) (at q now)) →
+    Losing h change before now (drop i listed) → Losing h change before after (drop (i + 1) listed)
+losing_hit h change before now after listed i d c l e p =
+    hit h change before now after (slice_index_or listed i d) (drop (i + 1) listed) c e (subst (Losing h change before now) (drop_more listed i d l) p)
 
-pub losing_all : (h : ℤ) (change : ℕ → Departed → Departed) (before now : List (ℕ × Departed)) (numbers : List ℕ) (i : ℕ) → length numbers ≤ i →
-    Losing h change before now (drop i numbers) → (q : ℕ) → at q now ≡ turn_in h (change q) (at q before)
-losing_all h change before now numbers i l p q =
-    let none : Losing h change before now [] = subst (Losing h change before now) (drop_of_length-le numbers l) p in
-    elim (none.each q) [ inl done ↦ done | inr same ↦ absurd (no_number same.1) ] where
-      no_number : false ≡ true → ⊥
-      no_number e = cc
+-- a listed frame is none of them
+
+hits_meets : (links : List LinkCfg) (loss : Loss) (q : ℕ) (d : Departed) → hits links loss (entry_of q d) ≡ meets links loss q d
+hits_meets links (Link k) q d = refl
+hits_meets links (Node n) q d = refl
+hits_meets links (Older j link by) q d = refl
+
+or_false : (g b : Bool) → b ≡ false → g || b ≡ g
+or_false true b e = refl
+or_false false b e = e
+
+spared : (h : ℤ) (b : Bool) (d : Departed) → b ≡ false → is_on d ≡ true → kept_in h (Some (lost b d)) ≡ Some d
+spared h b d e on =
+    ap (λ x. kept_in h (Some (lost x d))) e ∙ ap (λ g. kept_in h (Some (record d { gone = g }))) (or_false d.gone (false && is_on d) refl)
+    ∙ kept_some h d (on_is_kept h d on)
+
+miss : (h : ℤ) (links : List LinkCfg) (loss : Loss) (before now : List (ℕ × Departed)) (it : OnFibre) (left : List OnFibre) → hits links loss it ≡ false →
+    Losing h (lost_by links loss) before now (it ∷ left) → Losing h (lost_by links loss) before now left
+miss h links loss before now it left e p = record { each = λ q. by_each q (p.each q) } where
+  unmet : (q : ℕ) (d : Departed) → it ≡ entry_of q d → meets links loss q d ≡ false
+  unmet q d is = sym (hits_meets links loss q d) ∙ ap (hits links loss) (sym is) ∙ e
+
+  by_place : (q : ℕ) → (w : Waits q (at q before) (at q now) (it ∷ left)) → (it ≡ entry_of q w.frame) ⊎ IsAmong (entry_of q w.frame) left →
+      (at q now ≡ turn_in h (lost_by links loss q) (at q before)) ⊎ Waits q (at q before) (at q now) left
+  by_place q w (inl is) =
+      inl (w.same ∙ w.was ∙ sym (ap (turn_in h (lost_by links loss q)) w.was ∙ spared h (meets links loss q w.frame) w.frame (unmet q w.frame is) w.on))
+  by_place q w (inr more) = inr (record { frame = w.frame; was = w.was; same = w.same; on = w.on; among = more })
+
+  by_each : (q : ℕ) → (at q now ≡ turn_in h (lost_by links loss q) (at q before)) ⊎ Waits q (at q before) (at q now) (it ∷ left) →
+      (at q now ≡ turn_in h (lost_by links loss q) (at q before)) ⊎ Waits q (at q before) (at q now) left
+  by_each q (inl done) = inl done
+  by_each q (inr w) = by_place q w w.among
+
+pub losing_miss : (h : ℤ) (links : List LinkCfg) (loss : Loss) (before now : List (ℕ × Departed)) (listed : List OnFibre) (i : ℕ) (d : OnFibre) → i < length listed →
+    hits links loss (slice_index_or listed i d) ≡ false → Losing h (lost_by links loss) before now (drop i listed) → Losing h (lost_by links loss) before now (drop (i + 1) listed)
+losing_miss h links loss before now listed i d l e p =
+    miss h links loss before now (slice_index_or listed i d) (drop (i + 1) listed) e (subst (Losing h (lost_by links loss) before now) (drop_more listed i d l) p)
+
+pub losing_all : (h : ℤ) (change : ℕ → Departed → Departed) (before now : List (ℕ × Departed)) (listed : List OnFibre) (i : ℕ) → length listed ≤ i →
+    Losing h change before now (drop i listed) → (q : ℕ) → at q now ≡ turn_in h (change q) (at q before)
+losing_all h change before now listed i l p q =
+    let none : Losing h change before now [] = subst (Losing h change before now) (drop_of_length-le listed l) p in
+    elim (none.each q) [ inl done ↦ done | inr w ↦ absurd w.among ]
 
 -- a frame that is on a fibre afterwards was on it before
-pub lost_lists : (h : ℤ) (links : List LinkCfg) (loss : Loss) (kept after : List (ℕ × Departed)) (numbers : List ℕ) → Settled h kept numbers →
-    ((q : ℕ) → at q after ≡ turn_in h (lost_by links loss q) (at q kept)) → Lists after numbers
-lost_lists h links loss kept after numbers s e k d i on =
+pub lost_lists : (h : ℤ) (links : List LinkCfg) (loss : Loss) (kept after : List (ℕ × Departed)) (listed : List OnFibre) → Settled h kept listed →
+    ((q : ℕ) → at q after ≡ turn_in h (lost_by links loss q) (at q kept)) → Lists after listed
+lost_lists h links loss kept after listed s e k d i on =
     let it : CameFrom h (lost_by links loss k) (at k kept) d = came_from h (lost_by links loss k) (at k kept) d (sym (e k) ∙ i) in
     let was : is_on it.from ≡ true = lost_on (meets links loss k it.from) it.from (ap is_on it.same ∙ on) in
-    elim (s k it.from it.was) [ inl listed ↦ listed | inr off ↦ absurd (no (sym off.0 ∙ was)) ] where
-      no : false ≡ true → ⊥
-      no e = cc
+    elim (s k it.from it.was) [
+      | inl there ↦ subst (λ x. IsAmong x listed) (ap (entry_of k) it.same) there.1
+      | inr off ↦ absurd (no (sym off.0 ∙ was))
+    ]
 
--- Numbers are left out
+-- Frames are left out of the list
 
-pub same_numbers : (n k : ℕ) → (n == k) ≡ true → n ≡ k
-same_numbers n k e = same_number n k (tied n k ∙ e)
+among_filtered : (test : OnFibre → Bool) (listed : List OnFibre) (it : OnFibre) → test it ≡ true → IsAmong it listed → IsAmong it (filter test listed)
+among_filtered test [] it t a = a
+among_filtered test (first ∷ listed) it t (inl is) =
+    subst (IsAmong it) (sym (ap (λ b. cond b (first ∷ filter test listed) (filter test listed)) (ap test is ∙ t))) (inl is)
+among_filtered test (first ∷ listed) it t (inr more) = by_test (test first) (among_filtered test listed it t more) where
+  by_test : (b : Bool) → IsAmong it (filter test listed) → IsAmong it (cond b (first ∷ filter test listed) (filter test listed))
+  by_test true a = inr a
+  by_test false a = a
 
-one_filtered : (test : ℕ → Bool) (n : ℕ) (ns : List ℕ) (k : ℕ) → test k ≡ true → has_number k (n ∷ ns) ≡ true → (has_number k ns ≡ true → has_number k (filter test ns) ≡ true) →
-    (b c : Bool) → test n ≡ b → (n == k) ≡ c → has_number k (filter test (n ∷ ns)) ≡ true
-one_filtered test n ns k t h more true true e f = ap (λ x. has_number k (cond x (n ∷ filter test ns) (filter test ns))) e ∙ ap (λ x. x || has_number k (filter test ns)) f
-one_filtered test n ns k t h more true false e f =
-    ap (λ x. has_number k (cond x (n ∷ filter test ns) (filter test ns))) e ∙ ap (λ x. x || has_number k (filter test ns)) f
-    ∙ more (sym (ap (λ x. x || has_number k ns) f) ∙ h)
-one_filtered test n ns k t h more false true e f = let yes : test n ≡ true = ap test (same_numbers n k f) ∙ t in absurd cc
-one_filtered test n ns k t h more false false e f =
-    ap (λ x. has_number k (cond x (n ∷ filter test ns) (filter test ns))) e ∙ more (sym (ap (λ x. x || has_number k ns) f) ∙ h)
-
-filtered : (test : ℕ → Bool) (numbers : List ℕ) (k : ℕ) → test k ≡ true → has_number k numbers ≡ true → has_number k (filter test numbers) ≡ true
-filtered test [] k t h = h
-filtered test (n ∷ ns) k t h = one_filtered test n ns k t h (filtered test ns k t) (test n) (n == k) refl refl
-
-pub lists_left : (kept : List (ℕ × Departed)) (old new : List ℕ) → new ≡ filter (on_at kept) old → Lists kept old → Lists kept new
+pub lists_left : (kept : List (ℕ × Departed)) (old new : List OnFibre) → new ≡ filter (λ (it : OnFibre). on_at kept it.number) old → Lists kept old → Lists kept new
 lists_left kept old new e l k d i on =
-    ap (has_number k) e ∙ filtered (on_at kept) old k (ap (λ o. option_map_or is_on o false) i ∙ on) (l k d i on)
+    subst (IsAmong (entry_of k d)) (sym e)
+    (among_filtered (λ (it : OnFibre). on_at kept it.number) old (entry_of k d) (ap (λ o. option_map_or is_on o false) i ∙ on) (l k d i on))
 
 -- A frame arrives
 
@@ -190,23 +233,50 @@ arrived_off reception d = off d.gone where
   off true = refl
   off false = refl
 
-received_by : (h : ℤ) (reception : Reception) (numbers : List ℕ) (k : ℕ) (o m : Option Departed) (d : Departed) (b : Bool) →
-    ((x : Departed) → o ≡ Some x → (has_number k numbers ≡ true) ⊎ ((is_on x ≡ false) × (is_young h x ≡ true))) →
-    m ≡ cond b (option_map (receive reception) o) o → m ≡ Some d → (has_number k numbers ≡ true) ⊎ ((is_on d ≡ false) × (is_young h d ≡ true))
-received_by h reception numbers k o m d false s e f = s d (sym e ∙ f)
-received_by h reception numbers k None m d true s e f = absurd (no (sym e ∙ f)) where
-  no : None ≡ Some d → ⊥
-  no e = cc
-received_by h reception numbers k (Some x) m d true s e f = elim (s x refl) [
-  | inl listed ↦ inl listed
-  | inr it ↦ inr (subst (λ y. (is_on y ≡ false) × (is_young h y ≡ true)) (same (sym e ∙ f)) (arrived_off reception x, it.1))
-] where
+landed_off : (reception : Reception) (o : Option Departed) (d : Departed) → option_map (receive reception) o ≡ Some d → is_on d ≡ false
+landed_off reception None d e = absurd (none e) where
+  none : None ≡ Some d → ⊥
+  none e = cc
+landed_off reception (Some x) d e = subst (λ y. is_on y ≡ false) (same e) (arrived_off reception x) where
   same : Some (receive reception x) ≡ Some d → receive reception x ≡ d
   same e = cc
 
-pub received_settled : (h : ℤ) (reception : Reception) (j : ℕ) (kept after : List (ℕ × Departed)) (numbers : List ℕ) → Settled h kept numbers →
-    ((q : ℕ) → at q after ≡ cond (is_at (nat_cmp j) q) (option_map (receive reception) (at q kept)) (at q kept)) → Settled h after numbers
-received_settled h reception j kept after numbers s e k d i = received_by h reception numbers k (at k kept) (at k after) d (is_at (nat_cmp j) k) (s k) (e k) i
+-- a frame arrives, is forgotten if it is old, and leaves the list
+pub landed_settled :
+    (h : ℤ) (reception : Reception) (j : ℕ) (kept between after : List (ℕ × Departed)) (listed left : List OnFibre) → Settled h kept listed →
+    ((q : ℕ) → at q between ≡ cond (is_at (nat_cmp j) q) (option_map (receive reception) (at q kept)) (at q kept)) →
+    ((q : ℕ) → at q after ≡ cond (is_at (nat_cmp j) q) (kept_in h (at q between)) (at q between)) →
+    left ≡ filter (is_other j) listed → Settled h after left
+landed_settled h reception j kept between after listed left s e f g k d i = by_test (is_at (nat_cmp j) k) refl (e k) (sym (f k) ∙ i) where
+  by_test : (b : Bool) → is_at (nat_cmp j) k ≡ b → at k between ≡ cond b (option_map (receive reception) (at k kept)) (at k kept) →
+      cond b (kept_in h (at k between)) (at k between) ≡ Some d →
+      ((is_on d ≡ true) × IsAmong (entry_of k d) left) ⊎ ((is_on d ≡ false) × (is_young h d ≡ true))
+  by_test true x came stays =
+      let it = kept_is_it h (at k between) d stays in
+      let off : is_on d ≡ false = landed_off reception (at k kept) d (sym came ∙ it.0) in
+      inr (off, kept_young h d it.1 off)
+  by_test false x came same = elim (s k d (sym came ∙ same)) [
+    | inl it ↦ inl (it.0, subst (IsAmong (entry_of k d)) (sym g) (among_filtered (is_other j) listed (entry_of k d) (ap not (sym (equal_numbers j k) ∙ x)) it.1))
+    | inr it ↦ inr it
+  ]
+
+not_kept_off : (h : ℤ) (d : Departed) → is_kept h d ≡ false → is_on d ≡ false
+not_kept_off h d k = by_test (is_on d) refl where
+  by_test : (b : Bool) → is_on d ≡ b → is_on d ≡ false
+  by_test true on = absurd (no (sym k ∙ on_is_kept h d on))
+  by_test false off = off
+
+-- a frame that is forgotten first is forgotten all the same
+turn_forgotten : (h : ℤ) (change : Departed → Departed) → ((d : Departed) → is_on d ≡ false → change d ≡ d) → (b : Bool) (o : Option Departed) →
+    turn_in h change (cond b (kept_in h o) o) ≡ turn_in h change o
+turn_forgotten h change off false o = refl
+turn_forgotten h change off true None = refl
+turn_forgotten h change off true (Some d) = by_test (is_kept h d) refl where
+  by_test : (b : Bool) → is_kept h d ≡ b → turn_in h change (kept_in h (Some d)) ≡ turn_in h change (Some d)
+  by_test true k = ap (turn_in h change) (kept_some h d k)
+  by_test false k =
+      ap (turn_in h change) (kept_none h d k)
+      ∙ sym (ap (λ x. kept_in h (Some x)) (off d (not_kept_off h d k)) ∙ kept_none h d k)
 
 arrives_one : (h : ℤ) (reception : Reception) (j link : ℕ) (by : Role) (q : ℕ) (o : Option Departed) (a b : Bool) → a ≡ b →
     turn_in h (λ d. lost (is_older j link by q d) d) (cond a (option_map (receive reception) o) o) ≡ turn_in h (λ d. lost (is_older j link by q d) (if b then receive reception d else d)) o
@@ -217,11 +287,14 @@ arrives_one h reception j link by q (Some d) false false e = refl
 arrives_one h reception j link by q (Some d) true false e = absurd cc
 arrives_one h reception j link by q (Some d) false true e = absurd cc
 
-pub arrives_kept : (h : ℤ) (reception : Reception) (j link : ℕ) (by : Role) (links : List LinkCfg) (kept between after : List (ℕ × Departed)) →
+pub arrives_kept : (h : ℤ) (reception : Reception) (j link : ℕ) (by : Role) (links : List LinkCfg) (kept between forgotten after : List (ℕ × Departed)) →
     ((q : ℕ) → at q between ≡ cond (is_at (nat_cmp j) q) (option_map (receive reception) (at q kept)) (at q kept)) →
-    ((q : ℕ) → at q after ≡ turn_in h (lost_by links (Older j link by) q) (at q between)) → (q : ℕ) → at q after ≡ turn_in h (arrives_by j reception link by q) (at q kept)
-arrives_kept h reception j link by links kept between after e f q =
-    f q ∙ ap (turn_in h (lost_by links (Older j link by) q)) (e q)
+    ((q : ℕ) → at q forgotten ≡ cond (is_at (nat_cmp j) q) (kept_in h (at q between)) (at q between)) →
+    ((q : ℕ) → at q after ≡ turn_in h (lost_by links (Older j link by) q) (at q forgotten)) → (q : ℕ) → at q after ≡ turn_in h (arrives_by j reception link by q) (at q kept)
+arrives_kept h reception j link by links kept between forgotten after e m f q =
+    f q ∙ ap (turn_in h (lost_by links (Older j link by) q)) (m q)
+    ∙ turn_forgotten h (lost_by links (Older j link by) q) ((lost_loses links (Older j link by)).off q) (is_at (nat_cmp j) q) (at q between)
+    ∙ ap (turn_in h (lost_by links (Older j link by) q)) (e q)
     ∙ arrives_one h reception j link by q (at q kept) (is_at (nat_cmp j) q) (q == j) (equal_numbers j q)
 
 -- frames that are lost are due when they were due before, and none comes to be on a fibre

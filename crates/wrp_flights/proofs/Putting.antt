@@ -1,5 +1,5 @@
 -- What the window keeps when a frame departs.
-use Rattle.std.proofs.Common.{◌≡◌, ◌∙◌, refl, ap, sym, subst, ℕ, zero, suc, ◌+◌, ◌≤◌, ◌==◌, ◌||◌, ℤ, Bool, true, false, cond, if◌then◌else◌, List, [], ◌∷◌, ◌++◌, length, Option, Some, slice_get, arith}
+use Rattle.std.proofs.Common.{◌≡◌, ◌∙◌, refl, ap, sym, subst, ℕ, zero, suc, ◌+◌, ◌≤◌, ◌==◌, inl, inr, ℤ, Bool, true, false, cond, if◌then◌else◌, List, [], ◌∷◌, ◌++◌, length, Option, Some, slice_get, arith}
 use Rattle.std.proofs.lemmas.Map.Lookups.{exact_pairs, exact_signed, exact_unsigned}
 use Rattle.std.proofs.lemmas.Option.{slice_get_within}
 use Rattle.std.specs.BTreeMap.{is_at}
@@ -7,10 +7,11 @@ use Rattle.std.specs.Cmp.{unsigned_tied}
 use Rattle.std.specs.Option.{option_map_or}
 use Rattle.std.specs.Ordering.{nat_cmp, int_cmp}
 use Rattle.wrp_flights.specs.declared.departed.Departed.{Departed}
+use Rattle.wrp_flights.specs.declared.departed.OnFibre.{OnFibre}
 use Rattle.wrp_flights.specs.Ages.{Adds, AddsNone, Aged, age_cmp, has}
 use Rattle.wrp_flights.specs.Departed.{is_kept, is_on, is_young}
 use Rattle.wrp_flights.specs.Frames.{at, on_at, sent_at}
-use Rattle.wrp_flights.specs.Listing.{Holds, Lists, has_number}
+use Rattle.wrp_flights.specs.Listing.{Holds, IsAmong, Lists, entry_of}
 use Rattle.wrp_flights.specs.Next.{IsLeast, Orders}
 use Rattle.wrp_flights.proofs.Passing.{equal_is, same_number}
 
@@ -93,30 +94,23 @@ not_put_aged h sent kept ages more n time e a stays fewer = record {
   other k f i true x = absurd (past_last sent n k f.sent e (same_number_of (time, n) (f.sent, k) x) (a.told k f i))
   other k f i false x = x
 
--- The numbers of the frames on a fibre
+-- The frames on a fibre
 
-listed_more : (k n : ℕ) (numbers : List ℕ) → has_number k numbers ≡ true → has_number k (numbers ++ n ∷ []) ≡ true
-listed_more k n [] e = absurd cc
-listed_more k n (m ∷ numbers) e = by_test (listed_more k n numbers) (m == k) refl where
-  by_test : (has_number k numbers ≡ true → has_number k (numbers ++ n ∷ []) ≡ true) → (b : Bool) → (m == k) ≡ b → has_number k (m ∷ (numbers ++ n ∷ [])) ≡ true
-  by_test more true f = ap (λ x. x || has_number k (numbers ++ n ∷ [])) f
-  by_test more false f =
-      ap (λ x. x || has_number k (numbers ++ n ∷ [])) f
-      ∙ more (sym (ap (λ x. x || has_number k numbers) f) ∙ e)
+among_more : (it last : OnFibre) (listed : List OnFibre) → IsAmong it listed → IsAmong it (listed ++ last ∷ [])
+among_more it last [] a = absurd a
+among_more it last (first ∷ listed) (inl is) = inl is
+among_more it last (first ∷ listed) (inr more) = inr (among_more it last listed more)
 
-listed_last : (k n : ℕ) (numbers : List ℕ) → (n == k) ≡ true → has_number k (numbers ++ n ∷ []) ≡ true
-listed_last k n [] e = ap (λ x. x || false) e
-listed_last k n (m ∷ numbers) e = by_test (listed_last k n numbers e) (m == k) where
-  by_test : has_number k (numbers ++ n ∷ []) ≡ true → (b : Bool) → (b || has_number k (numbers ++ n ∷ [])) ≡ true
-  by_test more true = refl
-  by_test more false = more
+among_last : (it last : OnFibre) (listed : List OnFibre) → last ≡ it → IsAmong it (listed ++ last ∷ [])
+among_last it last [] is = inl is
+among_last it last (first ∷ listed) is = inr (among_last it last listed is)
 
-put_lists : (n : ℕ) (frame : Departed) (kept after : List (ℕ × Departed)) (numbers : List ℕ) →
-    ((k : ℕ) → at k after ≡ cond (is_at (nat_cmp n) k) (Some frame) (at k kept)) → Lists kept numbers → Lists after (numbers ++ n ∷ [])
-put_lists n frame kept after numbers g l k d e on = by_test (is_at (nat_cmp n) k) refl (sym (g k) ∙ e) where
-  by_test : (b : Bool) → is_at (nat_cmp n) k ≡ b → cond b (Some frame) (at k kept) ≡ Some d → has_number k (numbers ++ n ∷ []) ≡ true
-  by_test true x i = listed_last k n numbers (sym (unsigned_tied n k) ∙ x)
-  by_test false x i = listed_more k n numbers (l k d i on)
+put_lists : (n : ℕ) (frame : Departed) (kept after : List (ℕ × Departed)) (listed : List OnFibre) →
+    ((k : ℕ) → at k after ≡ cond (is_at (nat_cmp n) k) (Some frame) (at k kept)) → Lists kept listed → Lists after (listed ++ entry_of n frame ∷ [])
+put_lists n frame kept after listed g l k d e on = by_test (is_at (nat_cmp n) k) refl (sym (g k) ∙ e) where
+  by_test : (b : Bool) → is_at (nat_cmp n) k ≡ b → cond b (Some frame) (at k kept) ≡ Some d → IsAmong (entry_of k d) (listed ++ entry_of n frame ∷ [])
+  by_test true x i = among_last (entry_of k d) (entry_of n frame) listed (ap (λ m. entry_of m frame) (same_number n k x) ∙ ap (entry_of k) (some_is frame d i))
+  by_test false x i = among_more (entry_of k d) (entry_of n frame) listed (l k d i on)
 
 -- The order in which frames on fibres are due
 
@@ -127,7 +121,7 @@ length_last (s ∷ sent) t = let more = length_last sent t in omega (arith, more
 no : false ≡ true → ⊥
 no e = cc
 
-at_itself : (n k : ℕ) → n ≡ k → is_at (nat_cmp n) k ≡ true
+pub at_itself : (n k : ℕ) → n ≡ k → is_at (nat_cmp n) k ≡ true
 at_itself n k e = unsigned_tied n k ∙ search (arith, e)
 
 put_orders :
@@ -200,24 +194,24 @@ not_put_orders sent kept dues more n due e s a = record {
 -- All that the window keeps
 
 pub put_holds :
-    (h : ℤ) (sent : List ℤ) (kept after : List (ℕ × Departed)) (ages more : List (ℤ × ℕ)) (numbers : List ℕ) (dues ordered : List (ℤ × ℕ)) (n : ℕ) (frame : Departed) →
+    (h : ℤ) (sent : List ℤ) (kept after : List (ℕ × Departed)) (ages more : List (ℤ × ℕ)) (before : List OnFibre) (dues ordered : List (ℤ × ℕ)) (n : ℕ) (frame : Departed) →
     n ≡ length sent + 1 → is_on frame ≡ true →
-    Holds h sent kept ages numbers dues → ((k : ℕ) → at k after ≡ cond (is_at (nat_cmp n) k) (Some frame) (at k kept)) →
+    Holds h sent kept ages before dues → ((k : ℕ) → at k after ≡ cond (is_at (nat_cmp n) k) (Some frame) (at k kept)) →
     Adds frame.sent n ages more → Adds frame.due n dues ordered →
-    (later : List ℤ) (listed : List ℕ) → later ≡ sent ++ frame.sent ∷ [] → listed ≡ numbers ++ n ∷ [] → Holds h later after more listed ordered
-put_holds h sent kept after ages more numbers dues ordered n frame e on s g m o later listed same also = record {
+    (later : List ℤ) (listed : List OnFibre) → later ≡ sent ++ frame.sent ∷ [] → listed ≡ before ++ entry_of n frame ∷ [] → Holds h later after more listed ordered
+put_holds h sent kept after ages more before dues ordered n frame e on s g m o later listed same also = record {
   aged = subst (λ x. Aged h x after more) (sym same) (put_aged h sent kept after ages more n frame e on s.aged g m.each m.there);
-  lists = subst (Lists after) (sym also) (put_lists n frame kept after numbers g s.lists);
+  lists = subst (Lists after) (sym also) (put_lists n frame kept after before g s.lists);
   orders = subst (λ x. Orders x after ordered) (sym same) (put_orders sent kept after dues ordered n frame e on s.orders g o);
 }
 
 pub not_put_holds :
-    (h : ℤ) (sent : List ℤ) (kept after : List (ℕ × Departed)) (ages more : List (ℤ × ℕ)) (numbers : List ℕ) (dues ordered : List (ℤ × ℕ)) (n : ℕ) (time due : ℤ) →
-    n ≡ length sent + 1 → Holds h sent kept ages numbers dues → AddsNone time n ages more → AddsNone due n dues ordered →
-    (later : List ℤ) (listed : List ℕ) → later ≡ sent → after ≡ kept → listed ≡ numbers → Holds h later after more listed ordered
-not_put_holds h sent kept after ages more numbers dues ordered n time due e s a o later listed same alike also = record {
+    (h : ℤ) (sent : List ℤ) (kept after : List (ℕ × Departed)) (ages more : List (ℤ × ℕ)) (before : List OnFibre) (dues ordered : List (ℤ × ℕ)) (n : ℕ) (time due : ℤ) →
+    n ≡ length sent + 1 → Holds h sent kept ages before dues → AddsNone time n ages more → AddsNone due n dues ordered →
+    (later : List ℤ) (listed : List OnFibre) → later ≡ sent → after ≡ kept → listed ≡ before → Holds h later after more listed ordered
+not_put_holds h sent kept after ages more before dues ordered n time due e s a o later listed same alike also = record {
   aged = subst (λ x. Aged h x after more) (sym same) (subst (λ x. Aged h sent x more) (sym alike) (not_put_aged h sent kept ages more n time e s.aged a.stays a.fewer));
-  lists = subst (Lists after) (sym also) (subst (λ x. Lists x numbers) (sym alike) s.lists);
+  lists = subst (Lists after) (sym also) (subst (λ x. Lists x before) (sym alike) s.lists);
   orders = subst (λ x. Orders x after ordered) (sym same) (subst (λ x. Orders sent x ordered) (sym alike) (not_put_orders sent kept dues ordered n due e s.orders o));
 }
 

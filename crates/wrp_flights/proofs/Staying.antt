@@ -4,10 +4,11 @@ use Rattle.std.proofs.lemmas.Int.{ints}
 use Rattle.std.specs.Int.Signed.{le_z}
 use Rattle.std.specs.Option.{option_map_or}
 use Rattle.wrp_flights.specs.declared.departed.Departed.{Departed}
+use Rattle.wrp_flights.specs.declared.departed.OnFibre.{OnFibre}
 use Rattle.wrp_flights.specs.Ages.{Aged, Listed, has}
 use Rattle.wrp_flights.specs.Departed.{is_kept, is_on, is_young, kept_in, turn_in}
 use Rattle.wrp_flights.specs.Frames.{at, on_at}
-use Rattle.wrp_flights.specs.Listing.{Holds, Settled, has_number}
+use Rattle.wrp_flights.specs.Listing.{Holds, IsAmong, Settled, entry_of}
 use Rattle.wrp_flights.specs.Next.{Dated, Dues, FirstIs, Orders}
 use Rattle.wrp_flights.proofs.Passing.{is_late, kept_on}
 
@@ -62,11 +63,11 @@ turned_aged h sent kept after ages change still a e = record {
   time : (q : ℕ) (d : Departed) → (it : CameFrom h (change q) (at q kept) d) → it.from.sent ≡ d.sent
   time q d it = sym (still q it.from) ∙ ap (λ x. x.sent) it.same
 
--- what the window keeps says of each frame that it is listed, or young and on no fibre
-pub settles : (h : ℤ) (sent : List ℤ) (kept : List (ℕ × Departed)) (ages : List (ℤ × ℕ)) (numbers : List ℕ) (dues : List (ℤ × ℕ)) → Holds h sent kept ages numbers dues → Settled h kept numbers
-settles h sent kept ages numbers dues s k d e = by_test (is_on d) refl where
-  by_test : (b : Bool) → is_on d ≡ b → (has_number k numbers ≡ true) ⊎ ((is_on d ≡ false) × (is_young h d ≡ true))
-  by_test true on = inl (s.lists k d e on)
+-- what the window keeps says of each frame that it is on a fibre and listed, or young and on no fibre
+pub settles : (h : ℤ) (sent : List ℤ) (kept : List (ℕ × Departed)) (ages : List (ℤ × ℕ)) (listed : List OnFibre) (dues : List (ℤ × ℕ)) → Holds h sent kept ages listed dues → Settled h kept listed
+settles h sent kept ages listed dues s k d e = by_test (is_on d) refl where
+  by_test : (b : Bool) → is_on d ≡ b → ((is_on d ≡ true) × IsAmong (entry_of k d) listed) ⊎ ((is_on d ≡ false) × (is_young h d ≡ true))
+  by_test true on = inl (on, s.lists k d e on)
   by_test false off = inr (off, kept_young h d (s.aged.kept_is k d e) off)
 
 -- the due times are unchanged, and no frame comes to be on a fibre
@@ -136,10 +137,10 @@ passed_orders h sent kept after dues s e = record {
       ap (λ p. option_map_or is_on p false) (e k ∙ ap (kept_in h) i ∙ kept_on h d is) ∙ is
 
 pub passed_holds :
-    (before h : ℤ) (sent : List ℤ) (kept after : List (ℕ × Departed)) (ages left : List (ℤ × ℕ)) (numbers : List ℕ) (dues : List (ℤ × ℕ)) → Holds before sent kept ages numbers dues →
+    (before h : ℤ) (sent : List ℤ) (kept after : List (ℕ × Departed)) (ages left : List (ℤ × ℕ)) (listed : List OnFibre) (dues : List (ℤ × ℕ)) → Holds before sent kept ages listed dues →
     ((k : ℕ) → at k after ≡ kept_in h (at k kept)) → ((k : ℕ) (d : Departed) → at k after ≡ Some d → is_young h d ≡ true → has d.sent k left ≡ true) →
-    ((t : ℤ) (k : ℕ) → has t k left ≡ true → has t k ages ≡ true) → Holds h sent after left numbers dues
-passed_holds before h sent kept after ages left numbers dues s e young fewer = record {
+    ((t : ℤ) (k : ℕ) → has t k left ≡ true → has t k ages ≡ true) → Holds h sent after left listed dues
+passed_holds before h sent kept after ages left listed dues s e young fewer = record {
   aged = record {
     told = λ k d i. s.aged.told k d (kept_is_it h (at k kept) d (sym (e k) ∙ i)).0;
     kept_is = λ k d i. (kept_is_it h (at k kept) d (sym (e k) ∙ i)).1;

@@ -6,6 +6,7 @@ use Rattle.wrp_base.specs.declared.link.Role.{Role}
 use Rattle.wrp_base.specs.declared.link.Role.TheVariants.{Master, Slave}
 use Rattle.wrp_network.specs.declared.network.LinkCfg.{LinkCfg}
 use Rattle.wrp_flights.specs.declared.departed.Departed.{Departed}
+use Rattle.wrp_flights.specs.declared.departed.OnFibre.{OnFibre}
 use Rattle.wrp_flights.specs.declared.departed.Reception.{Reception}
 use Rattle.wrp_flights.specs.declared.losing.Loss.{Loss}
 use Rattle.wrp_flights.specs.declared.losing.Loss.TheVariants.{Link, Node, Older}
@@ -33,6 +34,12 @@ abbrev pub meets : List LinkCfg → Loss → ℕ → Departed → Bool
 meets links (Link k) q d = d.link == k
 meets links (Node n) q d = is_at_node n links d.link
 meets links (Older j link by) q d = is_older j link by q d
+
+-- a frame that is listed so is one of those that are lost
+abbrev pub hits : List LinkCfg → Loss → OnFibre → Bool
+hits links (Link k) it = it.link == k
+hits links (Node n) it = is_at_node n links it.link
+hits links (Older j link by) it = nat_lt it.number j && ((it.link == link) && is_role it.by by)
 
 abbrev pub lost_by : List LinkCfg → Loss → ℕ → Departed → Departed
 lost_by links loss q d = lost (meets links loss q d) d

@@ -32,6 +32,17 @@ pub struct Departed {
     pub gone: bool,
 }
 
+/// A frame on a fibre, as it is listed.
+#[derive(Clone, Copy, Debug)]
+pub struct OnFibre {
+    /// Its number.
+    pub number: u32,
+    /// Its link.
+    pub link: u8,
+    /// The end that sent it.
+    pub by: Role,
+}
+
 impl Departed {
     /// Whether it is on a fibre: it has not arrived, and still can.
     pub fn is_on(&self) -> bool

@@ -3,15 +3,15 @@ ghost use Rattle.std.specs.Prelude.{◌≡◌, ◌<◌, ◌≤◌, ◌+◌, ◌=
 ghost use Rattle.std.specs.Option.{is_some};
 ghost use Rattle.wrp_flights.specs.Departed.{is_on, turn_in};
 ghost use Rattle.wrp_flights.specs.Frames.{Departs, Passes, Puts, Turned, at, numbers_from, sent_at};
-ghost use Rattle.wrp_flights.specs.Listing.{Holds, Lists, Settled};
+ghost use Rattle.wrp_flights.specs.Listing.{Holds, Lists, Settled, entry_of};
 ghost use Rattle.wrp_flights.specs.Losing.{arrives_by, lost_by, loses_link, loses_node};
 ghost use Rattle.wrp_flights.specs.Next.{IsFirst};
 
 use crate::ages::expire;
-use crate::departed::{Departed, Reception};
-use crate::losing::{Loss, lose};
+use crate::departed::{Departed, OnFibre, Reception};
+use crate::losing::{Loss, land, lose};
 use crate::next::{next_due, settle};
-use crate::puts::{keep_due, receive};
+use crate::puts::{forget_old, keep_due, receive};
 use std::alloc::{AllocError, Global};
 use std::collections::{BTreeMap, BTreeSet};
 use std::marker::Model;
@@ -29,8 +29,8 @@ pub struct Frames {
     kept: BTreeMap<u32, Departed>,
     // When the young ones were put out, with their numbers.
     ages: BTreeSet<(Tau, u32)>,
-    // The numbers of the frames on a fibre.
-    on_fibre: Vec<u32>,
+    // The frames on a fibre, each with its link and the end that sent it.
+    on_fibre: Vec<OnFibre>,
     // When these frames are due, with their numbers; a frame that is no longer on a fibre stays until it
     // is the first.
     dues: BTreeSet<(Tau, u32)>,
@@ -202,25 +202,38 @@ impl Frames {
 // A frame arrives; this works on the parts.
 fn arrive(
     kept: &mut BTreeMap<u32, Departed>,
-    numbers: &mut Vec<u32>,
+    listed: &mut Vec<OnFibre>,
     number: u32,
     from: (u8, Role),
     reception: Reception,
     horizon: Tau,
 )
-    requires { Settled horizon kept.old.entries numbers.old.items }
+    requires { Settled horizon kept.old.entries listed.old.items }
     ensures kept { (k : ℕ) → at k kept.new.entries
         ≡ turn_in horizon (arrives_by number reception from.0 from.1 k) (at k kept.old.entries) }
-    ensures lists { Lists kept.new.entries numbers.new.items }
+    ensures lists { Lists kept.new.entries listed.new.items }
 {
     receive(kept, number, reception);
+    forget_old(kept, number, horizon);
+    land(listed, number);
     lose(
         kept,
-        numbers,
+        listed,
         Loss::Older(number, from.0, from.1),
         &[],
         horizon,
     );
+}
+
+// A frame with this number, as it is listed.
+fn entry_of(number: u32, frame: &Departed) -> OnFibre
+    ensures { result ≡ entry_of number frame.now }
+{
+    OnFibre {
+        number,
+        link: frame.link,
+        by: frame.by,
+    }
 }
 
 // A frame departs; this works on the parts.
@@ -228,15 +241,15 @@ fn put(
     sent: &mut Vec<Tau>,
     kept: &mut BTreeMap<u32, Departed>,
     ages: &mut BTreeSet<(Tau, u32)>,
-    numbers: &mut Vec<u32>,
+    listed: &mut Vec<OnFibre>,
     dues: &mut BTreeSet<(Tau, u32)>,
     frame: Departed,
 ) -> Result<(), AllocError>
     requires few { length sent.old.items + 1 < 2 ^ 32 }
     requires on { is_on frame ≡ true }
     ensures holds { (h : ℤ)
-        → Holds h sent.old.items kept.old.entries ages.old.keys numbers.old.items dues.old.keys
-        → Holds h sent.new.items kept.new.entries ages.new.keys numbers.new.items dues.new.keys }
+        → Holds h sent.old.items kept.old.entries ages.old.keys listed.old.items dues.old.keys
+        → Holds h sent.new.items kept.new.entries ages.new.keys listed.new.items dues.new.keys }
     ensures sent { OnOk result (sent.new.items ≡ sent.old.items ++ frame.sent ∷ []) }
     ensures kept { OnOk result ((k : ℕ) → at k kept.new.entries
         ≡ (if k == (length sent.old.items + 1) then Some frame else at k kept.old.entries)) }
@@ -244,10 +257,11 @@ fn put(
 {
     let number = sent.len() as u32 + 1;
     let time = frame.sent;
+    let entry = entry_of(number, &frame);
     sent.reserve(1)?;
-    numbers.reserve(1)?;
+    listed.reserve(1)?;
     keep_due(kept, ages, dues, number, frame)?;
     sent.push_reserved(time);
-    numbers.push_reserved(number);
+    listed.push_reserved(entry);
     Ok(())
 }

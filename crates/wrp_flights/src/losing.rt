@@ -5,10 +5,10 @@ ghost use Rattle.std.specs.Option.{option_map_or};
 ghost use Rattle.std.specs.Ordering.{nat_cmp};
 ghost use Rattle.wrp_flights.specs.Departed.{is_on, turn_in};
 ghost use Rattle.wrp_flights.specs.Frames.{at, on_at};
-ghost use Rattle.wrp_flights.specs.Listing.{Lists, Settled};
+ghost use Rattle.wrp_flights.specs.Listing.{Lists, Settled, is_other};
 ghost use Rattle.wrp_flights.specs.Losing as spec;
 
-use crate::departed::Departed;
+use crate::departed::{Departed, OnFibre};
 use crate::puts::forget_old;
 use std::collections::BTreeMap;
 use wrp_base::{Role, Tau};
@@ -96,21 +96,39 @@ fn lose_one(
     forget_old(kept, number, horizon);
 }
 
-// All of them are lost, and those that are then old are forgotten. The numbers list each frame that is
-// on a fibre, and each that is old.
+// Whether a frame that is listed so is one of those that are lost.
+fn hits(loss: Loss, links: &[LinkCfg], it: OnFibre) -> bool
+    ensures { result ≡ spec.hits links.now loss it }
+{
+    match loss {
+        Loss::Link(link) => it.link == link,
+        Loss::Node(node) => touches(links, it.link, node),
+        Loss::Older(than, link, by) => {
+            it.number < than && (it.link == link && is_role(it.by, by))
+        }
+    }
+}
+
+// Those of the listed frames are lost, and forgotten if they are then old. Each frame that is kept is on a
+// fibre and listed, or young. The answer says whether one was lost; nothing depends on it.
 fn lose_all(
     kept: &mut BTreeMap<u32, Departed>,
-    numbers: &[u32],
+    listed: &[OnFibre],
     loss: Loss,
     links: &[LinkCfg],
     horizon: Tau,
-)
-    requires { Settled horizon kept.old.entries numbers.now }
+) -> bool
+    requires { Settled horizon kept.old.entries listed.now }
     ensures { (k : ℕ) → at k kept.new.entries ≡ turn_in horizon (spec.lost_by links.now loss k) (at k kept.old.entries) }
 {
-    for number in numbers {
-        lose_one(kept, *number, loss, links, horizon);
+    let mut any = false;
+    for it in listed {
+        if hits(loss, links, *it) {
+            lose_one(kept, it.number, loss, links, horizon);
+            any = true;
+        }
     }
+    any
 }
 
 /// Whether the frame with a number is on a fibre.
@@ -123,28 +141,35 @@ pub fn is_on_at(kept: &BTreeMap<u32, Departed>, number: u32) -> bool
     }
 }
 
-// The numbers of frames that are on no fibre are left out.
-fn leave_out(kept: &BTreeMap<u32, Departed>, numbers: &mut Vec<u32>)
-    requires { Lists kept.now.entries numbers.old.items }
-    ensures kept { numbers.new.items ≡ filter (on_at kept.now.entries) numbers.old.items }
-    ensures lists { Lists kept.now.entries numbers.new.items }
+// The frames that are on no fibre are left out of the list.
+fn leave_out(kept: &BTreeMap<u32, Departed>, listed: &mut Vec<OnFibre>)
+    requires { Lists kept.now.entries listed.old.items }
+    ensures { Lists kept.now.entries listed.new.items }
 {
-    numbers.retain(|number| is_on_at(kept, *number));
+    listed.retain(|it| is_on_at(kept, it.number));
 }
 
-/// These frames are lost, and those that are then old are forgotten; the numbers are those of the
-/// frames on a fibre.
+/// A frame that is on no fibre is left out of the list.
+pub fn land(listed: &mut Vec<OnFibre>, number: u32)
+    ensures { listed.new.items ≡ filter (is_other number) listed.old.items }
+{
+    listed.retain(|it| it.number != number);
+}
+
+/// These frames are lost, and those that are then old are forgotten. Each frame on a fibre stays listed. Only
+/// the list is searched for them: a frame is looked up if it is one of them.
 pub fn lose(
     kept: &mut BTreeMap<u32, Departed>,
-    numbers: &mut Vec<u32>,
+    listed: &mut Vec<OnFibre>,
     loss: Loss,
     links: &[LinkCfg],
     horizon: Tau,
 )
-    requires { Settled horizon kept.old.entries numbers.old.items }
+    requires { Settled horizon kept.old.entries listed.old.items }
     ensures kept { (k : ℕ) → at k kept.new.entries ≡ turn_in horizon (spec.lost_by links.now loss k) (at k kept.old.entries) }
-    ensures lists { Lists kept.new.entries numbers.new.items }
+    ensures lists { Lists kept.new.entries listed.new.items }
 {
-    lose_all(kept, numbers, loss, links, horizon);
-    leave_out(kept, numbers);
+    if lose_all(kept, listed, loss, links, horizon) {
+        leave_out(kept, listed);
+    }
 }
