@@ -12,7 +12,7 @@ use Rattle.wrp_flights.specs.declared.departed.Departed.{Departed}
 use Rattle.wrp_flights.specs.Ages.{age_cmp, has}
 use Rattle.wrp_flights.specs.Departed.{is_on}
 use Rattle.wrp_flights.specs.Frames.{at, on_at}
-use Rattle.wrp_flights.specs.Next.{Dues, FirstIs, IsFirst, IsLeast, IsSoonest, Orders, TookLanded}
+use Rattle.wrp_flights.specs.Next.{Dues, FirstIs, IsFirst, IsSoonest, Orders, TookLanded}
 use Rattle.wrp_flights.proofs.Putting.{same_number_of}
 
 no : false ≡ true → ⊥

@@ -1,4 +1,4 @@
-use Rattle.std.proofs.Common.{subst, rules, IsSome}
+use Rattle.std.proofs.Common.{subst, IsSome}
 use Rattle.wrp_flights.proofs.FirstDue.{took}
 use Rattle.wrp_flights.proofs.next.take_first.Goals as goal
 
