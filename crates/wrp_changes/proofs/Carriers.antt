@@ -1,5 +1,4 @@
--- Carriers that are lost and that come: what the code lists at the ends of a link is what is given
--- there.
+-- Carriers that are lost and that come: what the code lists at the ends of a link is what is given there.
 use Rattle.std.proofs.Common.{◌≡◌, ◌∙◌, refl, ap, ap₂, sym, subst, ℕ, ℤ, pos, ◌==◌, ◌&&◌, ◌||◌, Bool, true, false, if◌then◌else◌, List, [], ◌∷◌, ◌++◌, slice_get, Option, None, Some, option_and_then}
 use Rattle.std.specs.List.{AllZip}
 use Rattle.std.specs.Option.{option_map_or}

@@ -1,5 +1,4 @@
--- After the change that an event makes by itself, no waiting frame was put out after the last put
--- time.
+-- After the change that an event makes by itself, no waiting frame was put out after the last put time.
 use Rattle.std.proofs.Common.{◌≡◌, ◌∙◌, ap, sym, subst, ℕ, suc, ◌==◌, ℤ, pos, ◌+ℤ◌, ◌≤ℤ◌, List, [], ◌∷◌, Option, None, Some, slice_get, drop, arith}
 use Rattle.std.proofs.lemmas.Int.{ints}
 use Rattle.std.proofs.lemmas.Option.{none-some}

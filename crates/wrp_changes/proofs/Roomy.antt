@@ -1,5 +1,4 @@
--- Taking memory changes nothing, and the change that an event makes by itself leaves the memory that was
--- taken.
+-- Taking memory changes nothing, and the change that an event makes by itself leaves the memory that was taken.
 use Rattle.std.proofs.Common.{◌≡◌, ◌∙◌, refl, ap, sym, subst, ℕ, ℤ, ◌<◌, ◌≤◌, ◌⊎◌, inl, inr, List, Some, slice_get, arith}
 use Rattle.std.specs.List.{AllZip}
 use Rattle.std.proofs.lemmas.Bool.{cases_lt}

@@ -16,8 +16,7 @@ use Rattle.wrp_course.specs.Run.{IsSaid}
 use Rattle.wrp_course.specs.Setting.{Setting}
 use Rattle.wrp_course.specs.WorldAt.{WorldAt}
 
--- the listed inputs are the ones that the event gives; a frame among them was put out at the time
--- `put`
+-- the listed inputs are the ones that the event gives; a frame among them was put out at the time `put`
 abbrev pub ListsGifts : Plant → Event → ℤ → List NodeOut → Type 0
 ListsGifts plant e put outs =
     (s : Setting) (w : WorldAt) (says : Result PtpMsg FrameFault) →

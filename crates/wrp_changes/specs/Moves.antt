@@ -12,8 +12,7 @@ use Rattle.wrp_plant.specs.declared.plant.Plant.{Plant}
 use Rattle.wrp_course.specs.Moved.{drift_of, move_of, swap_at}
 use Rattle.wrp_course.specs.Setting.{end_of, is_of}
 
--- two lists of the same length: each element of the second comes from the element at the same place
--- in the first, by R
+-- two lists of the same length: each element of the second comes from the element at the same place in the first, by R
 abbrev pub EachBecame : {A : Type 0} → (ℕ → A → A → Type 0) → List A → List A → Type 0
 EachBecame {A} R xs ys = (length ys ≡ length xs) × ((n : ℕ) (y : A) → slice_get ys n ≡ Some y → (x : A) × (slice_get xs n ≡ Some x) × R n x y)
 

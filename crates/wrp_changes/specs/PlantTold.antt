@@ -104,8 +104,7 @@ TellsIn now news outs (Some link) old new = TellsSpan now news outs link old new
 abbrev pub TellsAt : ℤ → News → List Output → List LinkCfg → ℕ → (old new : Span) → Type 0
 TellsAt now news outs links k old new = TellsIn now news outs (slice_get links k) old new
 
--- the same at all ends; it is noted when a frame was last put out, and for how many steps there is room
--- left
+-- the same at all ends; it is noted when a frame was last put out, and for how many steps there is room left
 pub record TellsEnds (news : News) (outs : List Output) (old new : Plant) : Type 0 where
   pub same : new ≡ record old { spans = new.spans; last_put = if sends outs then old.time else old.last_put; spare = new.spare }
   pub spans : EachBecame (TellsAt old.time news outs old.net.cfg.links.items) old.spans.items new.spans.items

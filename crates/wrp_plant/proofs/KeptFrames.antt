@@ -1,5 +1,4 @@
--- What the code answers about kept frames, and how many it keeps, is true of the frames of the
--- state.
+-- What the code answers about kept frames, and how many it keeps, is true of the frames of the state.
 use Rattle.std.proofs.Common.{◌≡◌, ◌∙◌, refl, ap, ap₂, sym, subst, ◌||◌, ℕ, zero, suc, ◌+◌, ℤ, pos, ◌-ℤ◌, Bool, true, false, cond, if◌then◌else◌, List, [], ◌∷◌, length, Option, None, Some, option_map, option_and_then, count_by, arith, not}
 use Rattle.std.proofs.lemmas.Int.{ints}
 use Rattle.std.proofs.lemmas.List.Sums.{sum_by-cons}

@@ -1,5 +1,4 @@
--- In a world whose nodes have laws that fit the links above them, the answers of the laws are near the exact
--- fraction.
+-- In a world whose nodes have laws that fit the links above them, the answers of the laws are near the exact fraction.
 use Rattle.std.proofs.Common.{◌≡◌, inl, inr, ap, sym, subst, ℕ, ℤ, ◌+ℤ◌, ◌-ℤ◌, ◌*ℤ◌, pos, ◌*◌, ◌≤◌, ◌<◌, ◌^◌, ◌≤ℤ◌, unsigned_abs, List, length, Option, None, Some, is_some, false, arith}
 use Rattle.std.proofs.lemmas.Option.{slice_get_cases}
 use Rattle.wrp_network.specs.declared.configuration.NetCfg.{NetCfg}

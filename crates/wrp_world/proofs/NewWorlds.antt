@@ -1,5 +1,4 @@
--- A world before any event stands for the first state of a world, and each of its nodes stands for no
--- inputs.
+-- A world before any event stands for the first state of a world, and each of its nodes stands for no inputs.
 use Rattle.std.proofs.Common.{◌≡◌, refl, ℕ, ◌≤◌, ℤ, List, length, Option, arith}
 use Rattle.wrp_network.specs.declared.configuration.NetCfg.{NetCfg}
 use Rattle.wrp_network.specs.Network.{node_count}

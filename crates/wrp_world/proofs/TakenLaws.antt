@@ -11,8 +11,7 @@ use Rattle.wrp_node.specs.Set.{set_of}
 use Rattle.wrp_node.specs.StandsFor.{NodeOf, StandsFor as NodeStandsFor}
 use Rattle.wrp_world.specs.New.{IsNewNode}
 
--- the element that is taken from the rest of a list is the one at its place, and leaves what
--- follows it
+-- the element that is taken from the rest of a list is the one at its place, and leaves what follows it
 pub record Taken {A : Type 0} (xs rest : List A) (n : ℕ) (x : A) : Type 0 where
   pub at : slice_get xs n ≡ Some x
   pub left : rest ≡ drop (suc n) xs

@@ -1,5 +1,4 @@
--- An event is taken: it keeps all premises, it makes its own change to the world, and the nodes take its
--- inputs.
+-- An event is taken: it keeps all premises, it makes its own change to the world, and the nodes take its inputs.
 use Rattle.std.proofs.Common.{◌≡◌, ◌∙◌, refl, ap, sym, subst, ℕ, ◌+◌, ◌≤◌, ℤ, Bool, true, false, if◌then◌else◌, List, [], ◌∷◌, ◌++◌, flat_map, Option, None, Some, option_map, ◌≢◌, Result, Err, IfErr, arith}
 use Rattle.std.proofs.lemmas.Bool.{true≢false}
 use Rattle.std.specs.List.{AllByRecursion, AllZip}

@@ -1,5 +1,4 @@
--- What becomes of a world as its nodes take the inputs of an event, one after another (this
--- project's profile).
+-- What becomes of a world as its nodes take the inputs of an event, one after another (this project's profile).
 use Rattle.std.specs.Prelude.{◌≡◌, ◌≤◌, ◌<◌, ◌+◌, ◌%◌, ◌==◌, ℕ, ℤ, Bool, true, false, List, [], ◌∷◌, map, Option}
 use Rattle.std.specs.List.{AllByRecursion, AllZip}
 use Rattle.wrp_network.specs.declared.configuration.NetCfg.{NetCfg}
