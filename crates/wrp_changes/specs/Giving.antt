@@ -1,5 +1,4 @@
--- The inputs of an event as the code lists them, before the nodes take them: part by part, and all of them (this
--- project's profile).
+-- The inputs of an event as the code lists them before the nodes take them: by parts, and all (this project's profile).
 use Rattle.std.specs.Prelude.{ℕ, ℤ, pos, ◌≡◌, ◌≤◌, ◌%◌, ◌==◌, ◌||◌, ◌++◌, Bool, true, false, List, [], ◌∷◌, length, flat_map, Option, None, Some, Result}
 use Rattle.std.specs.List.{AllByRecursion, AllZip}
 use Rattle.std.specs.Option.{option_map_or}

@@ -17,7 +17,8 @@ abbrev pub after_feed : List ℕ → Option (List ℕ)
 after_feed [] = None
 after_feed (octet ∷ octets) = if octet == 10 then Some octets else None
 
--- the octets that a reader at the start of a line has left: without an LF that follows the CR of the last line
+-- the octets that a reader at the start of a line has left: without an LF that follows the CR of the
+-- last line
 abbrev pub at_start : State → Option (List ℕ) → Option (List ℕ)
 at_start StartRecord left = left
 at_start AfterCr left = option_and_then after_feed left

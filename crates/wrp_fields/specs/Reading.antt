@@ -1,5 +1,5 @@
--- Reading a line: which octets it may have, its fields, which are counted from 1, and its fault, which
--- is the first from the left (this project's profile).
+-- Reading a line: which octets it may have, its fields, which count from 1, and its fault, which is the
+-- first from the left (this project's profile).
 use Rattle.std.specs.Prelude.{◌≡◌, ◌==◌, ◌&&◌, not, nat_lt, Bool, false, ℕ, ◌-◌, Option, unwrap_or, ok_or, Result, Ok, Err, List, [], ◌∷◌, slice_get}
 use Rattle.std.specs.List.{list_all}
 use Rattle.wrp_base.specs.declared.fault.TraceFault.{TraceFault}

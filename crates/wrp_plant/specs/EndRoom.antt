@@ -1,5 +1,4 @@
--- How much room the ends of a link have for what nodes send, and when the frames that wait there were put out (this
--- project's profile).
+-- The room that the ends of a link have for what nodes send, and when what waits was put out (this project's profile).
 use Rattle.std.specs.Prelude.{◌≡◌, ◌≤◌, ◌+◌, ◌*◌, ◌≤ℤ◌, ℕ, ℤ, Some, slice_get, vec_len, vec_capacity}
 use Rattle.wrp_plant.specs.declared.ends.EndState.{EndState}
 use Rattle.wrp_plant.specs.declared.ends.PutOut.{PutOut}

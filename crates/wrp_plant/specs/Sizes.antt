@@ -17,8 +17,7 @@ IsOff off = unsigned_abs off ≤ 2 ^ 124
 abbrev pub IsReading : ℤ → Type 0
 IsReading reading = unsigned_abs reading ≤ 2 ^ 125
 
--- How they grow with the number of events: an event moves a time or a delay by less than 2^63, and an offset by at most
--- 2^92
+-- How they grow with events: each moves a time or a delay by less than 2^63, and an offset by at most 2^92
 
 abbrev pub IsTimeBy : ℕ → ℤ → Type 0
 IsTimeBy events t = unsigned_abs t ≤ 2 ^ 92 + 2 ^ 63 * events

@@ -12,11 +12,10 @@ use Rattle.wrp_course.specs.Setting.{Setting}
 use Rattle.wrp_bound_laws.specs.Bounds.{AllAreBounded, IsTrueStep, TrueRun}
 use Rattle.wrp_bound_laws.specs.Chains.{AllHaveConstants}
 
--- after the event, each port in WR_LINK_ON has earned it: its peer went through the steps that this requires, in that
--- same handshake, and a slave knows the deltas of the installed modules; each port is where its marks lead, and the
--- verdict on both ends' histories is Ok exactly in WR_LINK_ON; each port that a node reports in the event to be in
--- WR_LINK_ON is there, and has earned it; and a frame that a node drops for one of the reasons 1 to 12 changes one
--- counter and nothing else
+-- after the event, each port in WR_LINK_ON has earned it: its peer went through the required steps of that same
+-- handshake, and a slave knows the deltas of the installed modules; each port is where its marks lead, and the verdict
+-- on both histories is Ok exactly in WR_LINK_ON; each port that a node reports in the event to be in WR_LINK_ON is
+-- there, and has earned it; a frame dropped for one of the reasons 1 to 12 changes one counter and nothing else
 pub record LinksHold (s : Setting) (h : Happened) (before : List Happened) : Type 0 where
   pub handshakes : AllHaveEarned s (world_after s (h ∷ before))
   pub judged : AllAreJudged s (world_after s (h ∷ before))

@@ -23,8 +23,7 @@ pub record NodeIs {F : Type 0} (post : F → ℤ → ℤ → Type 0) (s : Settin
   pub at : w.node n ≡ node_after (node_setting_of s n) (w.inputs n)
   pub stands : NodeStandsFor post (node_setting_of s n) node (w.inputs n)
 
--- the world stands for this state of a world with this setting, in which each node has the settings of its part of
--- the network
+-- the world stands for this state of a world with this setting; each node is set to its part of the network
 pub record StandsFor {F : Type 0} (post : F → ℤ → ℤ → Type 0) (s : Setting) (w : WorldAt) (world : WorldOf F) : Type 0 where
   pub set : (n : ℕ) → s.set n ≡ set_of s.cfg n
   pub plant : PlantIs s w world.plant

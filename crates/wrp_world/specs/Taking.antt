@@ -1,4 +1,5 @@
--- What becomes of a world as its nodes take the inputs of an event, one after another (this project's profile).
+-- What becomes of a world as its nodes take the inputs of an event, one after another (this
+-- project's profile).
 use Rattle.std.specs.Prelude.{◌≡◌, ◌≤◌, ◌<◌, ◌+◌, ◌%◌, ◌==◌, ℕ, ℤ, Bool, true, false, List, [], ◌∷◌, map, Option}
 use Rattle.std.specs.List.{AllByRecursion, AllZip}
 use Rattle.wrp_network.specs.declared.configuration.NetCfg.{NetCfg}
@@ -70,9 +71,8 @@ pub record IsNewsOf {F : Type 0} (post : F → ℤ → ℤ → Type 0) (put : �
 
 -- What a world becomes
 
--- a node took an input; answer is the law's answer, if it is needed: what came out is what the
--- node's step puts out, and the world stands for what the step makes of each state that it stood
--- for
+-- a node took an input; answer is the law's answer, if it is needed: the outputs are those of the
+-- node's step, and the world stands for what the step makes of each state that it stood for
 pub record Gives {F : Type 0} (post : F → ℤ → ℤ → Type 0) (put answer : ℤ) (old new : WorldOf F) (before after : NodeOut) : Type 0 where
   pub stands :
       (s : Setting) (v : WorldAt) (g : Given) → StandsFor post s v old → GiftIs put g before →
