@@ -78,7 +78,7 @@ pub still : {A : Type 0} (R : ℕ → A → A → Type 0) (xs ys : List A) (i : 
     TurnedTo R xs ys i → slice_get xs i ≡ Some x
 still R xs ys i x h e t = sym (t.left i (omega arith)) ∙ slice_get-get_or ys i x h ∙ ap (λ y. Some y) (sym e)
 
--- what was true of each element is true, changed, of what it became
+-- if R leads from P to Q, and P holds of each element, Q holds of each that it became
 pub each_turned : {A : Type 0} (R : ℕ → A → A → Type 0) (P Q : ℕ → A → Type 0) (xs ys : List A) → EachBecame R xs ys →
     ((n : ℕ) (x y : A) → R n x y → P n x → Q n y) → Each P xs → Each Q ys
 each_turned R P Q xs ys t f p n y e = let it : Came R xs n y = t.1 n y e in f n it.0 y it.2 (p n it.0 it.1)

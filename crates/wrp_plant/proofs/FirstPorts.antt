@@ -124,7 +124,7 @@ covered k j q h = elim (cases_lt j k) [
   | inr more ↦ one_more k j q (omega (arith, h, more))
 ]
 
--- it is the first among the ends of the first links, as many as given
+-- it is the first among the ends of the first k links
 among : (s : Setting) (w : WorldAt) (k : ℕ) → k ≤ length s.cfg.links.items → Foremost s w (Below k) (first_among s w k)
 among s w zero h = λ j q below. absurd (omega (arith, below))
 among s w (suc k) h =
@@ -238,7 +238,7 @@ port_puts s w port accepted h =
     (end_of_place s port.0 port.1 at.0 at.1) h.end_is in
     ap (λ o. is_now w (oldest_of (waiting_at w o))) at.1 ∙ ap₂ (λ a b. puts_out_at w a b) same.0 same.1 ∙ h.puts
 
--- no waiting frame was put out now at a port whose end, if it has one, has no oldest frame that was put out now
+-- if the oldest frame at a port's end was not put out now, or the port is at no end, the same is true at the port
 port_silent : (s : Setting) (w : WorldAt) (n p : ℕ) (o : Option Place) → place_of s n p ≡ o →
     ((place : Place) → place_of s n p ≡ Some place → puts_out_at w place.link place.role ≡ false) → is_now w (oldest_of (waiting_at w o)) ≡ false
 port_silent s w n p None e h = refl

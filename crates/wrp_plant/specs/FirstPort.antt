@@ -30,7 +30,7 @@ with_end s w first k r = if puts_out_at w k r then with_port first (end_at s k r
 abbrev pub with_link : Setting → WorldAt → Option (ℕ × ℕ) → ℕ → Option (ℕ × ℕ)
 with_link s w first k = with_end s w (with_end s w first k Master) k Slave
 
--- the same at the ends of the first links, as many as given
+-- the same at the ends of the first k links
 abbrev pub first_among : Setting → WorldAt → ℕ → Option (ℕ × ℕ)
 first_among s w zero = None
 first_among s w (suc k) = with_link s w (first_among s w k) k

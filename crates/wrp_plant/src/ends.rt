@@ -14,7 +14,7 @@ use wrp_network::Name;
 pub struct PutOut {
     /// Its octets, from the PTP header on.
     pub octets: Frame,
-    /// The true time at which it was put out.
+    /// The true time at which it was put out, in tau.
     pub at: Tau,
 }
 

@@ -1,5 +1,4 @@
-//! Which premise an event breaks, as far as the nodes do not matter: these checks need a world without its nodes (this
-//! project's profile).
+//! Which premise an event breaks: the checks that need only a world without its nodes (this project's profile).
 #![tactic(auto)]
 
 mod checks;

@@ -1,4 +1,4 @@
-//! Which premise an event breaks, as far as the nodes do not matter.
+//! Which premise an event breaks: the checks that need no node.
 pub mod fibres;
 pub mod frames;
 pub mod modules;

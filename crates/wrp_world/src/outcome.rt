@@ -14,7 +14,7 @@ pub enum Refused {
         premise: u8,
         /// The left side of the first comparison that fails.
         shown: Tau,
-        /// The right side, which the left side should keep.
+        /// The right side: the bound that the left side should keep.
         bound: Tau,
     },
     /// There is not enough memory.

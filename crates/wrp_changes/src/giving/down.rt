@@ -1,4 +1,4 @@
-//! The inputs that a node gives as it goes down: at each of its ports, in ascending order.
+//! The inputs that are given when a node goes down: at each of its ports, in ascending order.
 ghost use Rattle.std.specs.Prelude.{◌<◌, length, OnOk};
 ghost use Rattle.wrp_course.specs.declared.event.Event.TheVariants as event;
 ghost use Rattle.wrp_course.specs.Given.{goes_from, if_carried};
@@ -38,8 +38,8 @@ fn goes_at_ports(plant: &Plant, n: u8, outs: &mut Vec<NodeOut>) -> Result<(), Al
     Ok(())
 }
 
-/// Lists the inputs of a node that goes down. `AllocError` if there is not enough memory; then the
-/// contents of `outs` are not specified.
+/// Lists the inputs that are given when a node goes down. `AllocError` if there is not enough
+/// memory; then the contents of `outs` are not specified.
 pub fn give_down(plant: &Plant, n: u8, outs: &mut Vec<NodeOut>) -> Result<(), AllocError>
     requires fits { FitsPlant plant.now }
     ensures { OnOk result (Gives plant.now (event.Down n) outs.new.items) }

@@ -1,4 +1,4 @@
-//! Carriers that are lost and that come back at the ends of a link.
+//! Carriers that are lost and carriers that come, at the ends of a link.
 ghost use Rattle.std.specs.Prelude.{◌≡◌, ◌<◌, length, true, OnOk};
 ghost use Rattle.wrp_base.specs.Link.{other_of};
 ghost use Rattle.wrp_course.specs.Given.{goes_at, goes_from};

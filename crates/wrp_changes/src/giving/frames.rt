@@ -119,7 +119,7 @@ fn to_node(n: u8, input: Option<Input>) -> Option<Gift>
     }
 }
 
-/// The input of a departure: it reports the frame that is sent. `stamp` is in tau, within `2^100` either
+/// The input of a departure: it reports the sending of a frame. `stamp` is in tau, within `2^100` either
 /// way. `None` if no frame waits at the port, no link has that port, or the oldest frame is neither a
 /// Sync nor a Delay_Req.
 pub fn gift_of_departure(plant: &Plant, n: u8, port: u16, stamp: Tau) -> Option<Gift>

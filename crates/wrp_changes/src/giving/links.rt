@@ -1,4 +1,4 @@
-//! The inputs of a link that is cut, and of a link that is joined.
+//! The inputs that are given when a link is cut, and when a link is joined.
 ghost use Rattle.std.specs.Prelude.{◌≡◌, ◌<◌, [], ℤ, length, OnOk, if◌then◌else◌};
 ghost use Rattle.wrp_base.specs.declared.link.Role.TheVariants.{Master};
 ghost use Rattle.wrp_course.specs.declared.event.Event.TheVariants as event;
@@ -74,8 +74,8 @@ fn comes_in_place(plant: &Plant, place: Place, outs: &mut Vec<NodeOut>) -> Resul
     comes_from(plant, place, own, other, outs)
 }
 
-/// Lists the inputs of a link that is cut. `AllocError` if there is not enough memory; then the
-/// contents of `outs` are not specified.
+/// Lists the inputs that are given when a link is cut. `AllocError` if there is not enough memory;
+/// then the contents of `outs` are not specified.
 pub fn give_cut(plant: &Plant, link: u8, outs: &mut Vec<NodeOut>) -> Result<(), AllocError>
     requires fits { FitsPlant plant.now }
     requires link { link < length plant.now.net.cfg.links.items }
@@ -85,8 +85,8 @@ pub fn give_cut(plant: &Plant, link: u8, outs: &mut Vec<NodeOut>) -> Result<(), 
     goes_if_carried(plant, upper_end(link), outs)
 }
 
-/// Lists the inputs of a link that is joined; its delays do not matter. `AllocError` if there is
-/// not enough memory; then the contents of `outs` are not specified.
+/// Lists the inputs that are given when a link is joined, whatever its delays. `AllocError` if
+/// there is not enough memory; then the contents of `outs` are not specified.
 pub fn give_join(plant: &Plant, link: u8, outs: &mut Vec<NodeOut>) -> Result<(), AllocError>
     requires fits { FitsPlant plant.now }
     requires link { link < length plant.now.net.cfg.links.items }

@@ -10,7 +10,7 @@ use wrp_node::{Input, Outputs};
 /// An input of a node.
 #[derive(Drop)]
 pub struct Gift {
-    /// The node that is given it.
+    /// The node that gets it.
     pub node: u8,
     /// The input itself.
     pub input: Input,

@@ -1,4 +1,4 @@
-//! The inputs of a node that comes up: it restarts, and then come its ports, in ascending order.
+//! The inputs that are given when a node comes up: its restart, then its ports, in ascending order.
 ghost use Rattle.std.specs.Prelude.{◌≡◌, ◌<◌, ◌&&◌, ◌||◌, [], ℤ, length, OnOk, if◌then◌else◌};
 ghost use Rattle.arrayvec.specs.ArrayVec.{ArrayVec as Items};
 ghost use Rattle.wrp_course.specs.declared.event.Event.TheVariants as event;
@@ -150,8 +150,8 @@ fn comes_at_ports(
     Ok(())
 }
 
-/// Lists the inputs of a node that comes up with these modules; the offset of its clock does not
-/// matter. `AllocError` if there is not enough memory; then the contents of `outs` are not
+/// Lists the inputs that are given when a node comes up with these modules, whatever the offset of
+/// its clock. `AllocError` if there is not enough memory; then the contents of `outs` are not
 /// specified.
 pub fn give_up(
     plant: &Plant,

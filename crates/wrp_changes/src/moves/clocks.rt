@@ -27,7 +27,7 @@ fn drift_by(clock: &mut ClockState, drift: i64)
     clock.off = sum(clock.off, i128::from(drift));
 }
 
-// A clock drifts by its entry in the list.
+// A clock drifts by its entry in `drifts`.
 fn drift_one(clock: &mut ClockState, drifts: &[i64], n: usize)
     requires { IsOff clock.old.off }
     ensures { Drifts drifts.now n clock.old clock.new }
@@ -35,7 +35,7 @@ fn drift_one(clock: &mut ClockState, drifts: &[i64], n: usize)
     drift_by(clock, drift_at(drifts, n));
 }
 
-/// Each clock drifts by its entry in the list.
+/// Each clock drifts by its entry in `drifts`.
 pub fn drift(clocks: &mut Vec<ClockState>, drifts: &[i64])
     requires { Each (λ n clock. IsOff clock.off) clocks.old.items }
     ensures { EachBecame (Drifts drifts.now) clocks.old.items clocks.new.items }

@@ -10,7 +10,7 @@ use wrp_course::FibreState;
 use wrp_network::{LinkCfg, NetCfg};
 use wrp_plant::{EndState, Span, down_at, move_by, up_at};
 
-// The delays of a link change by its entry in the list, down and up.
+// Changes the delays of a link, down and up, by its entry in `moves`.
 fn move_span(span: &mut Span, moves: &[(i64, i64)], k: usize)
     requires ms { IsDelay span.old.fibre.ms }
     requires sm { IsDelay span.old.fibre.sm }
@@ -29,7 +29,7 @@ fn stays_at(moves: &[(i64, i64)], k: usize) -> bool
     }
 }
 
-// The same, but quick for a fibre that does not change.
+// Changes the delays of a link by its entry in `moves`; quick for a fibre that does not change.
 fn move_one(span: &mut Span, moves: &[(i64, i64)], k: usize)
     requires ms { IsDelay span.old.fibre.ms }
     requires sm { IsDelay span.old.fibre.sm }
@@ -52,7 +52,7 @@ fn all_stay(moves: &[(i64, i64)]) -> bool
     true
 }
 
-// The delays of each link change by its entry in the list.
+// Changes the delays of each link by its entry in `moves`.
 fn move_each(spans: &mut Vec<Span>, moves: &[(i64, i64)])
     requires { Each (λ k span. IsDelay span.fibre.ms × IsDelay span.fibre.sm) spans.old.items }
     ensures { EachBecame (Moves moves.now) spans.old.items spans.new.items }
@@ -62,7 +62,7 @@ fn move_each(spans: &mut Vec<Span>, moves: &[(i64, i64)])
     }
 }
 
-/// The delays of each link change by its entry in the list. If none changes, no link is looked at.
+/// Changes the delays of each link by its entry in `moves`. If none changes, no link is looked at.
 pub fn move_fibres(spans: &mut Vec<Span>, moves: &[(i64, i64)])
     requires { Each (λ k span. IsDelay span.fibre.ms × IsDelay span.fibre.sm) spans.old.items }
     ensures { EachBecame (Moves moves.now) spans.old.items spans.new.items }

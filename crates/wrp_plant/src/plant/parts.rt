@@ -24,7 +24,7 @@ impl Plant {
         &self.net.cfg
     }
 
-    /// True time.
+    /// True time, in tau.
     pub fn now(&self) -> Tau
         requires { FitsPlant self.now }
         ensures value { result ≡ self.now.time }

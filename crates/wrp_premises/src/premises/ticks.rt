@@ -43,7 +43,7 @@ fn soon_enough(most: Tau, after: Tau, ticked: Tau) -> Option<Breach>
     at_most(2, difference(after, ticked), most)
 }
 
-// Checks that the tick of one clock is not late yet.
+// Checks that the next tick of one clock is not too late by then.
 fn tick_late(most: Tau, after: Tau, clock: &ClockState) -> Option<Breach>
     requires most { IsTime most }
     requires after { IsTime after }
@@ -57,7 +57,7 @@ fn tick_late(most: Tau, after: Tau, clock: &ClockState) -> Option<Breach>
     }
 }
 
-/// Premise 2: time does not pass beyond the next tick of any clock. `after` is the true time that is
+/// Premise 2: time does not pass so far that a node ticks too late. `after` is the true time that is
 /// reached, and `most` the longest time from one tick to the next, in tau. `None` if it holds;
 /// otherwise, for the first node that is up and would tick too late, the time since its last tick
 /// against `most`.

@@ -69,9 +69,9 @@ fn leaving_broken(plant: &Plant, n: u8, place: Place, stamp: Tau) -> Option<Brea
 }
 
 /// The first premise that breaks if the oldest frame that waits at a port departs, with both sides.
-/// `stamp` is in tau, within `2^92` either way. The port is at no link (13), no frame waits (11),
-/// the stamp is too far from the node's reading (7, in tau), the frame is too old (10, in tau), or
-/// the link has no carrier (13). `None` if none breaks.
+/// `stamp` is in tau, within `2^92` either way. In order: the port is at no link (13), no frame
+/// waits (11), the stamp is too far from the node's reading (7, in tau), the frame is too old (10,
+/// in tau), or the link has no carrier (13). `None` if none breaks.
 pub fn depart_broken(plant: &Plant, n: u8, port: u16, stamp: Tau) -> Option<Breach>
     requires fits { FitsPlant plant.now }
     requires node { n < length plant.now.net.cfg.nodes.items }

@@ -92,9 +92,9 @@ fn up_again_broken(plant: &Plant, n: u8) -> Option<Breach>
 }
 
 /// The first premise that breaks if a node comes up with this offset and these modules, with both
-/// sides. `off` is in tau, within `2^90` either way. The grandmaster's offset is not 0 (3), the
-/// delays of a link are wrong (5), a module is too far from its entry (6), or a swap is at no link
-/// or the node is already up (13). `None` if none breaks.
+/// sides. `off` is in tau, within `2^90` either way. In order: the grandmaster's offset is not 0
+/// (3), the delays of a link are wrong (5), a module is too far from its entry (6), a swap is at no
+/// link (13), or the node is already up (13). `None` if none breaks.
 pub fn up_broken(plant: &Plant, n: u8, off: Tau, swaps: &ArrayVec<Swap, 18>) -> Option<Breach>
     requires fits { FitsPlant plant.now }
     requires node { n < length plant.now.net.cfg.nodes.items }

@@ -1,4 +1,4 @@
-//! Which premise breaks if time passes, as far as the nodes do not matter.
+//! Which premise breaks if time passes: the checks that need no node.
 ghost use Rattle.std.specs.Prelude.{◌≡◌, ◌≤◌, ◌^◌, ◌+ℤ◌, length, map, flat_map, unsigned_abs};
 ghost use Rattle.wrp_course.specs.Checks.{told_of};
 ghost use Rattle.wrp_plant.specs.Plant.{FitsPlant, PlantIs};

@@ -156,8 +156,8 @@ impl<F: Fn(i64) -> i64> World<F> {
         self.plant.oldest_at(place)
     }
 
-    /// Whether, at an end of any link, the oldest waiting frame was put out now. If it is false, the same is
-    /// false at every port of every node.
+    /// Whether, at an end of any link, the oldest waiting frame was put out now. If not, the oldest waiting
+    /// frame was not put out now at any port of any node either.
     pub fn puts_out_now(&self) -> bool
         requires { IsValid F.pre F.post self.now }
         ensures value { Tells F.post puts_out self.now result }
