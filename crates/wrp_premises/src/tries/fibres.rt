@@ -63,8 +63,9 @@ fn new_fibre_broken(plant: &Plant, k: u8, ms: Tau, sm: Tau) -> Option<Breach>
     delays_broken(plant, k, &fibre, master, slave)
 }
 
-/// The first premise that breaks if a link is joined with these delays, with both sides. They are
-/// in tau, within `2^63` either way. `None` if none breaks.
+/// The first premise that breaks if a link is joined with these delays, with both sides: the delays
+/// are wrong (5), or the link is already joined (13). The delays are in tau, within `2^63` either
+/// way. `None` if none breaks.
 pub fn join_broken(plant: &Plant, k: u8, ms: Tau, sm: Tau) -> Option<Breach>
     requires fits { FitsPlant plant.now }
     requires link { k < length plant.now.net.cfg.links.items }
