@@ -1,4 +1,4 @@
--- A frame that arrives: of a plant as of the state that it stands for, with numbers in their sizes.
+-- A frame that arrives: the plant changes as its state does, and its numbers stay in range.
 use Rattle.std.proofs.Common.{◌≡◌, ◌∙◌, refl, ap, ap₂, sym, ℕ, ◌+◌, ◌<◌, ◌^◌, ◌==◌, ◌||◌, ◌&&◌, nat_lt, Bool, true, false, if◌then◌else◌, length, Option, None, Some, option_map}
 use Rattle.std.proofs.lemmas.Bool.{true≢false}
 use Rattle.std.specs.Option.{is_some, option_map_or}
@@ -145,7 +145,7 @@ frames_by s w j raw from r old new g d e k same a b t h =
     (λ i. arriving_is s w j raw g from.link from.role r i a (b ∙ ap (samples_from s w) same ∙ samples_alike s w g d k)
     (ap (λ (p : Place). p.link) same ∙ k.link) (ap (λ (p : Place). p.role) same ∙ k.by)) h
 
--- the frame that arrives, where one is kept
+-- the frame that arrives, if one is kept
 from_kept : (from : Place) (q : Option Departed) → Some from ≡ option_map from_of q → (d : Departed) × (q ≡ Some d) × (from ≡ from_of d)
 from_kept from None p = absurd (none_from from p)
 from_kept from (Some d) p = (d, refl, same_Some from (from_of d) p)
@@ -173,7 +173,7 @@ arrive_is s w j raw from r old new c a b p h =
     arrived_is s w j raw (Turned (arrives_by j r from.link from.role)) old new c h
     (frames_by s w j raw from r old.frames new.frames it.one d.0 it.is it.holds d.2 a b c.of_frames h.frames)
 
--- a frame that is on a fibre is kept
+-- a frame on a fibre is kept
 pub none_arrives_is : (s : Setting) (w : WorldAt) (j : ℕ) (raw : Raw) (old new : Plant) → is_on_fibre (w.frame j) ≡ true →
     None ≡ option_map from_of (at j old.frames.kept) → PlantIs s w old → PlantIs s (moved s w (Arrive j raw)) new
 none_arrives_is s w j raw old new on p h =

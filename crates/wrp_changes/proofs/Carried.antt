@@ -1,4 +1,4 @@
--- What a link that is cut or joined gives, and a node that goes down or comes up: all that the code lists is all that is given.
+-- The inputs of a link that is cut or joined, and of a node that goes down or comes up: the code lists all of them.
 use Rattle.std.proofs.Common.{◌≡◌, ◌∙◌, refl, ap, sym, subst, ℕ, zero, suc, ℤ, ◌+◌, ◌*◌, Bool, if◌then◌else◌, List, [], ◌∷◌, ◌++◌, append_assoc, arith}
 use Rattle.std.specs.List.{flat_map}
 use Rattle.arrayvec.specs.ArrayVec.{ArrayVec}
@@ -23,7 +23,7 @@ use Rattle.wrp_changes.proofs.Carriers.{joined_carrier}
 use Rattle.wrp_changes.proofs.Listing.{adds_then, gives_added, no_more}
 use Rattle.wrp_course.proofs.PortNumbers.{all_numbers, ascends, not_placed}
 
--- One port after the other
+-- One port after another
 
 upto_more : {A : Type 0} (f : ℕ → List A) (i first : ℕ) → flat_map f (from_on i first) ++ f (first + i) ≡ flat_map f (from_on (suc i) first)
 upto_more f zero first = let same : first + 0 ≡ first = omega arith in ap f same ∙ no_more (f first)
@@ -32,7 +32,7 @@ upto_more f (suc i) first =
     append_assoc (f first) (flat_map f (from_on i (first + 1))) (f (first + suc i))
     ∙ ap (λ l. f first ++ l) (ap (λ k. flat_map f (from_on i (first + 1)) ++ f k) same ∙ upto_more f i (first + 1))
 
--- of each state a world that may be another, as the world in which a node has come up
+-- in another world that depends on the state, such as the world after a node came up
 pub ports_more : (plant : Plant) (v : Setting → WorldAt → WorldAt) (gives : Setting → WorldAt → ℕ → Role → List Given) (n i p : ℕ) (xs ys zs : List NodeOut) → p ≡ i + 1 →
     Adds plant (2 * i) (λ s w. at_numbers s (v s w) (gives s w) n (from_on i 1)) xs ys →
     Adds plant 2 (λ s w. if_carried s (v s w) (gives s w) (place_of s n p)) ys zs →

@@ -1,4 +1,4 @@
--- Carriers that go and come: what the code lists at the ends of a link is what is given there.
+-- Carriers that are lost and that come: what the code lists at the ends of a link is what is given there.
 use Rattle.std.proofs.Common.{◌≡◌, ◌∙◌, refl, ap, ap₂, sym, subst, ℕ, ℤ, pos, ◌==◌, ◌&&◌, ◌||◌, Bool, true, false, if◌then◌else◌, List, [], ◌∷◌, ◌++◌, slice_get, Option, None, Some, option_and_then}
 use Rattle.std.specs.List.{AllZip}
 use Rattle.std.specs.Option.{option_map_or}
@@ -57,7 +57,7 @@ pub comes_both : (s : Setting) (w : WorldAt) (k : ℕ) (r : Role) (own other : L
     comes_over_both s k r own other ≡ comes_from s w k r
 comes_both s w k r own other e f = ap₂ (λ a b. comes_over s k r a ++ comes_over s k (other_of r) b) e f
 
--- Where the link has its carrier
+-- If the link has its carrier
 
 pub where_so : {A : Type 0} (b c : Bool) (x : A) (y : A) → c ≡ b → c ≡ true → x ≡ (if b then x else y)
 where_so b c x y e is = rw (sym e ∙ is) refl
@@ -100,7 +100,7 @@ carrier_with s w plant n k off swaps link b joined upper lower h e is f g i =
     is ∙ ap₂ (λ x y. x && y) f (ap₂ (λ x y. x && y) g i)
     ∙ ap (λ o. (w.fibre k).joined && ends_are_up (up_of s w n off swaps).clock o) (sym (ap (λ (cfg : NetCfg). slice_get cfg.links.items k) (sym h.cfg) ∙ e))
 
--- the module that is then in place at an end
+-- the module that is then installed at an end
 
 swapped_name : (o : Option Swap) (e : EndAt) → option_map_or (λ swap. swap.name.bytes) o e.name ≡ (with_swap o e).name
 swapped_name None e = refl

@@ -1,4 +1,4 @@
--- A frame that departs: of a plant as of the state that it stands for, with numbers in their sizes.
+-- A frame that departs: the plant changes as its state does, and its numbers stay in range.
 use Rattle.std.proofs.Common.{◌≡◌, ◌∙◌, refl, ap, ap₂, sym, subst, ℕ, zero, suc, ◌+◌, ◌*◌, ◌<◌, ◌≤◌, ◌^◌, ◌==◌, ◌&&◌, ℤ, pos, ◌+ℤ◌, ◌-ℤ◌, unsigned_abs, Bool, true, false, if◌then◌else◌, List, [], ◌∷◌, ◌++◌, length, drop, slice_get, Option, None, Some, IfSome, OnOk, Result, Ok, Err, option_map, vec_len, vec_capacity, arith}
 use Rattle.std.proofs.lemmas.Int.{ints}
 use Rattle.std.specs.List.{AllZip}
@@ -92,7 +92,7 @@ not_next i n e f = grind (arith, e, f)
 not_first : (n : ℕ) → (zero == (n + 1)) ≡ true → ⊥
 not_first n e = grind (arith, e)
 
--- when the frame of a number was put out, once one more departed
+-- the time at which the frame of a number was put out, after one more departed
 sent_more : (xs : List ℤ) (t : ℤ) (k : ℕ) (b : Bool) → (k == (length xs + 1)) ≡ b → sent_at k (xs ++ (t ∷ [])) ≡ (if b then Some t else sent_at k xs)
 sent_more xs t zero true e = absurd (not_first (length xs) e)
 sent_more xs t zero false e = refl
@@ -171,7 +171,7 @@ depart_is s w n p stamp place d old new c e k h =
     (λ l x y r q. let j = subst (λ o. SpanOf w o l y) (sym e) (span_of w place l x y r q) in record { fibre = j.0; master = j.1; slave = j.2 }) h.spans)
     (record { horizon = frames.0; count = frames.1; sent = frames.2; each = frames.3 })
 
--- a port that no link has
+-- a port that belongs to no link
 abbrev NoneOf : Option Place → WorldAt → ℤ → Type 0
 NoneOf o w stamp =
     (one_more (waiting_at w o) w.departed ≡ w.departed) × ((i : ℕ) → departing w o stamp (waiting_at w o) i ≡ w.frame i) × ((k : ℕ) (r : Role) → is_place o k r ≡ false)
@@ -316,7 +316,7 @@ depart_fits place d old new c k few f =
     (departs_fit (length old.net.cfg.links.items) old.events d old.frames new.frames c.of_frames k f.frames)
     (depart_room place d old new c old.spare f.room) (depart_puts old.last_put place _ _ _ old new c f.puts) (never_later old.time)
 
--- What follows where a call answers Ok
+-- What follows if a call returns Ok
 
 pub on_ok : {A E P Q : Type 0} (r : Result A E) → OnOk r P → (P → Q) → OnOk r Q
 on_ok (Ok x) h f = f h

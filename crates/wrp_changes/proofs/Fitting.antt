@@ -1,4 +1,4 @@
--- What an event changes by itself keeps the sizes of the numbers of a plant.
+-- The change that an event makes by itself keeps the numbers of a plant in range.
 use Rattle.std.proofs.Common.{◌≡◌, ◌∙◌, refl, ap, sym, subst, ℕ, ◌+◌, ◌<◌, ◌≤◌, ◌^◌, ◌==◌, ℤ, pos, ◌+ℤ◌, ◌≤ℤ◌, Bool, true, false, List, length, slice_get, Option, None, Some, unsigned_abs, arith}
 use Rattle.std.proofs.lemmas.Int.{ints}
 use Rattle.std.proofs.lemmas.Option.{none-some}
@@ -29,7 +29,7 @@ use Rattle.wrp_plant.proofs.Sizing.{never_later}
 use Rattle.wrp_changes.proofs.RoomKept.{cut_room, down_room, join_room, pass_room, same_room, up_room}
 use Rattle.wrp_changes.proofs.Turned.{each_turned, each_same}
 
--- One event more
+-- One more event
 
 pub time_more : (e : ℕ) (t : ℤ) → IsTimeBy e t → IsTimeBy (e + 1) t
 time_more e t h = omega arith
@@ -93,7 +93,7 @@ frames_more links e frames h = record {
 same_frames : (links e : ℕ) (old new : FramesAt) → new ≡ old → FitsFrames links e old → FitsFrames links (e + 1) new
 same_frames links e old new s h = subst (FitsFrames links (e + 1)) (sym s) (frames_more links e old h)
 
--- frames that change, each by its number
+-- frames that change, each according to its number
 pub turned_fit : (links e : ℕ) (change : ℕ → Departed → Departed) (old new : FramesAt) → Turned change old new →
     ((i : ℕ) (d : Departed) → FitsDeparted links e d → FitsDeparted links (e + 1) (change i d)) → FitsFrames links e old → FitsFrames links (e + 1) new
 turned_fit links e change old new t more h = record {
@@ -266,7 +266,7 @@ gone_down_fits n links old new c few f =
     (λ i d k. lost_fits (length old.net.cfg.links.items) old.events (is_at_node n links d.link) d (loses_node n links i d) refl k) f.frames)
     (down_room n links _ _ _ old new c old.spare f.room) (down_puts old.last_put n links _ _ _ old new c f.puts) (never_later old.time)
 
--- Modules that are put in place
+-- Modules that are installed
 
 put_fits : (e : ℕ) (swap : Option Swap) (x y : EndState) → Swapped swap x y → FitsEnd e x → FitsEnd (e + 1) y
 put_fits e None x y r h = subst (FitsEnd (e + 1)) (sym r) (end_more e x h)

@@ -1,4 +1,5 @@
--- What a frame gives as it is handed over and as it departs, and the other events that give one input at most.
+-- The inputs of a frame that is handed over and of a frame that departs, and of the other events that give at
+-- most one input.
 use Rattle.std.proofs.Common.{◌≡◌, ◌∙◌, refl, ap, ap₂, sym, subst, ℕ, ℤ, pos, ◌+◌, ◌<◌, ◌≤◌, ◌^◌, unsigned_abs, true, List, [], ◌∷◌, length, slice_get, Option, None, Some, IfSome, option_map, Result, Ok, Err, arith}
 use Rattle.std.proofs.lemmas.Int.{ints}
 use Rattle.std.specs.List.{AllByRecursion, AllZip}
@@ -105,7 +106,7 @@ pub noise_gives_copied : (plant : Plant) (n p k : ℕ) (octets copy : ArrayVec �
 noise_gives_copied plant n p k octets copy raw e h port range is =
     subst (λ (o : ArrayVec ℕ). Gives plant (Noise n p octets raw) (listed (record { node = n; input = Frame p o raw k }) ∷ [])) (sym e) (noise_gives plant n p k octets raw h port range is)
 
--- no port is there: the event is not accepted
+-- there is no such port: the event is not accepted
 no_noise : (s : Setting) (w : WorldAt) (says : Result PtpMsg FrameFault) (n p : ℕ) (octets : ArrayVec ℕ) (raw : Raw) → place_of s n p ≡ None → Accepts s w says (Noise n p octets raw) → ⊥
 no_noise s w says n p octets raw none accepted =
     let h : AllHold (noise_checks s w n p says None) = subst (λ (o : Option Place). AllHold (noise_checks s w n p says o)) none accepted in
@@ -173,7 +174,7 @@ frame_gives plant i d gift e is fits = record {
   few = few_entries gift;
 }
 
--- none is kept: none is handed over that was put out long ago, and none that is not kept has arrived else
+-- an accepted event hands over no frame that is not kept
 not_delivered : (s : Setting) (w : WorldAt) (i : ℕ) (put : ℤ) (plant : Plant) (f : FrameAt) (a : Option Arrival) → PlantIs s w plant → at i plant.frames.kept ≡ None → w.frame i ≡ Some f →
     AllHold (deliver_by s w i f a) → AllZip (GiftIs put) (delivered_by s f a) []
 not_delivered s w i put plant f None stands e k accepted = tt

@@ -1,4 +1,4 @@
--- The frames that are kept, as an event changes them, stand for those of the state.
+-- After an event changed the kept frames, they stand for the frames of the state.
 use Rattle.std.proofs.Common.{◌≡◌, ◌∙◌, refl, ap, ap₂, sym, subst, ℕ, ◌||◌, ◌&&◌, ℤ, pos, ◌+ℤ◌, ◌-ℤ◌, ◌≤ℤ◌, Bool, true, false, if◌then◌else◌, length, Option, None, Some, option_map, arith}
 use Rattle.std.proofs.lemmas.Int.{ints}
 use Rattle.std.specs.Int.Signed.{le_z}
@@ -22,7 +22,7 @@ if_or false b = refl
 kept_alike : (h : ℤ) (f : FrameAt) (d : Departed) → DepartedIs f d → is_kept h d ≡ is_kept_since h (Some f)
 kept_alike h f d e = if_or (is_on d) (is_young h d) ∙ ap₂ (λ a t. a || le_z h t) (sym (on_alike f d e)) e.sent
 
--- what is kept of a frame that is one
+-- what is kept of a single frame
 frame_kept : (h : ℤ) (f : FrameAt) (d : Departed) → DepartedIs f d → MaybeIs DepartedIs (kept_since h (Some f)) (kept_in h (Some d))
 frame_kept h f d e = by_test (is_kept h d) refl where
   by_test : (b : Bool) → is_kept h d ≡ b → MaybeIs DepartedIs (kept_since h (Some f)) (kept_in h (Some d))

@@ -1,4 +1,4 @@
--- Inputs that are listed: one behind the other, and all that an event gives.
+-- Inputs that are listed: one after another, and all inputs of an event.
 use Rattle.std.proofs.Common.{◌≡◌, ◌∙◌, refl, ap, sym, subst, ℕ, ℤ, pos, ◌+◌, ◌≤◌, List, [], ◌∷◌, ◌++◌, append_assoc, length, length-append, OnOk, Option, None, Some, Result, Ok, Err, arith}
 use Rattle.std.specs.List.{AllByRecursion, AllZip}
 use Rattle.arrayvec.specs.ArrayVec.{ArrayVec}
@@ -30,7 +30,7 @@ pub no_more : {A : Type 0} (xs : List A) → xs ≡ xs ++ []
 no_more [] = refl
 no_more (x ∷ xs) = ap (λ l. x ∷ l) (no_more xs)
 
--- Inputs behind others
+-- Inputs after others
 
 pub adds_none : (plant : Plant) (most : ℕ) (f : Setting → WorldAt → List Given) (xs : List NodeOut) →
     ((s : Setting) (w : WorldAt) → PlantIs s w plant → [] ≡ f s w) → Adds plant most f xs xs
@@ -75,7 +75,7 @@ adds_as plant a most f g xs ys few e h = record {
   gifts = λ s w is. subst (λ gs. AllZip (GiftIs (pos 0)) gs h.more) (e s w is) (h.gifts s w is);
 }
 
--- All that an event gives
+-- All inputs of an event
 
 pub gives_added : (plant : Plant) (e : Event) (most : ℕ) (f : Setting → WorldAt → List Given) (xs ys : List NodeOut) → xs ≡ [] → most ≤ 37 → put_of plant e ≡ pos 0 →
     ((s : Setting) (w : WorldAt) (says : Result PtpMsg FrameFault) → ((n : ℕ) → s.set n ≡ set_of s.cfg n) → PlantIs s w plant → f s w ≡ given_by s w (moved s w e) says e) →
@@ -90,7 +90,7 @@ gives_added plant e most f xs ys empty few put same h =
       few = let count : length ys ≡ length h.more = ap length is in omega (arith, count, h.few, few);
     }
 
--- One input at most
+-- At most one input
 
 alone_zip : (put : ℤ) (gs : List Given) (gift : Gift) (o : ArrayVec Output) → AllZip (GiftIs put) gs (listed gift ∷ []) →
     AllZip (GiftIs put) gs (record { node = gift.node; input = gift.input; outs = o } ∷ [])
@@ -110,7 +110,7 @@ pub gives_listed : (plant : Plant) (e : Event) (gift : Option Gift) (outs : List
 gives_listed plant e None outs is h = subst (Gives plant e) (sym is) h
 gives_listed plant e (Some gift) outs is h = subst (Gives plant e) (sym is.items) (gives_alone plant e gift is.beside h)
 
--- An event, as it stands in an arm
+-- An event, as it appears in a match arm
 
 pub given_as : (plant : Plant) (e k : Event) (outs : List NodeOut) → e ≡ k → Gives plant k outs → Gives plant e outs
 given_as plant e k outs is h = subst (λ (f : Event). Gives plant f outs) (sym is) h

@@ -1,4 +1,4 @@
--- What an event changes by itself: of a plant as of the state that it stands for.
+-- The change that an event makes by itself: the plant changes as its state does.
 use Rattle.std.proofs.Common.{◌≡◌, ◌∙◌, refl, ap, ap₂, sym, subst, ℕ, ◌+◌, ◌==◌, ◌||◌, ◌&&◌, ℤ, pos, ◌+ℤ◌, ◌≤ℤ◌, Bool, true, false, if◌then◌else◌, List, [], slice_get, Option, None, Some, option_map}
 use Rattle.std.proofs.lemmas.Bool.{true≢false}
 use Rattle.std.specs.List.{AllZip}
@@ -167,7 +167,7 @@ join_is s w k ms sm old new c h =
     record { fibre = j.0; master = j.1; slave = j.2 }) h.spans)
     (kept_frames s (Join k ms sm) w (moved s w (Join k ms sm)) old.frames new.frames c.of_frames (λ l. refl) refl refl (λ i. refl) h.frames)
 
--- What waits, and what is on a fibre, is lost
+-- The frames that wait and those on a fibre are lost
 
 emptied : (at : EndAt) (x y : EndState) → Empties x y → EndIs at x → EndIs (record at { waiting = [] }) y
 emptied at x y r h = record {
@@ -219,7 +219,7 @@ down_is s w n old new c h =
     (λ i. removed_is s (Down n) (loses_node n old.net.cfg.links.items i) (λ d. is_at_node n old.net.cfg.links.items d.link) (λ d. refl)
     (λ f d r. at_node n (slice_get old.net.cfg.links.items d.link) ∙ touched s old.net.cfg n d.link h.cfg ∙ ap (touches s n) r.link)) h.frames)
 
--- Modules that are put in place
+-- Modules that are installed
 
 put_end : (swap : Option Swap) (at : EndAt) (x y : EndState) → Swapped swap x y → EndIs at x → EndIs (with_swap swap at) y
 put_end None at x y r h = subst (EndIs at) (sym r) h

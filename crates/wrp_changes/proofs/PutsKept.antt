@@ -1,4 +1,4 @@
--- What an event changes by itself leaves no frame that waits and was put out later.
+-- After the change that an event makes by itself, no waiting frame was put out after the last put time.
 use Rattle.std.proofs.Common.{◌≡◌, ◌∙◌, ap, sym, subst, ℕ, suc, ◌==◌, ℤ, pos, ◌+ℤ◌, ◌≤ℤ◌, List, [], ◌∷◌, Option, None, Some, slice_get, drop, arith}
 use Rattle.std.proofs.lemmas.Int.{ints}
 use Rattle.std.proofs.lemmas.Option.{none-some}
@@ -111,7 +111,7 @@ depart_puts z place C F t old new c h =
     turned_puts z (At place.link (TakesOldest place.role)) C F t old new c
     (λ i x y r p. where_room (i == place.link) (TakesOldest place.role) (SpanPutBy z) x y r (λ q. taken_put z place.role x y q) p) h
 
--- Moments
+-- Times
 
 pub later_still : (a b c : ℤ) → a ≤ℤ b → b ≤ℤ c → a ≤ℤ c
 later_still a b c h k = omega (arith, ints, h, k)

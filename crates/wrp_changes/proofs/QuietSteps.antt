@@ -1,4 +1,4 @@
--- A step that sends nothing and changes no link state leaves the ends of links as they are, and the places that were taken.
+-- A step that sends nothing and changes no link state leaves the ends of links and their room as they are.
 use Rattle.std.proofs.Common.{◌≡◌, ◌∙◌, refl, ap, sym, subst, ℕ, suc, ◌+◌, ◌==◌, ◌++◌, ℤ, Bool, true, false, if◌then◌else◌, List, [], ◌∷◌, length, map, Option, None, Some, slice_get, arith}
 use Rattle.std.proofs.lemmas.List.{append-nil}
 use Rattle.wrp_base.specs.Clock.{period_of}
@@ -19,7 +19,7 @@ use Rattle.wrp_changes.specs.Room.{HasRoom}
 use Rattle.wrp_changes.proofs.Roomy.{fewer_steps}
 use Rattle.wrp_changes.proofs.TellingPlants.{none_sent, spare_kept}
 
--- Rows that say the same
+-- Rows with the same content
 
 state_by : (a b : Bool) (x y rest others : LinkState) → a ≡ b → is_same x y ≡ true → is_same rest others ≡ true →
     is_same (if a then x else rest) (if b then y else others) ≡ true
@@ -73,7 +73,7 @@ quiet_ends news outs plant q = record {
   spare = λ h. h;
 }
 
--- The ends of a step that is not quiet are told
+-- What a step that is not quiet does at the ends
 
 pub loud_ends : (news : News) (outs : List Output) (old new : Plant) →
     new ≡ record old { spans = new.spans; last_put = if sends outs then old.time else old.last_put; spare = less_one old.spare } →
@@ -109,7 +109,7 @@ pub put_both : (news : News) (outs : List Output) (old mid new : Plant) → mid 
     new.last_put ≡ (if sends outs then old.time else old.last_put)
 put_both news outs old mid new m t = ap (λ (p : Plant). p.last_put) t.same ∙ ap (λ (p : Plant). if sends outs then p.time else p.last_put) m
 
--- a plant whose clocks alone changed has the room that it had
+-- a plant in which only the clocks changed has the same room
 pub room_there : (k : ℕ) (old mid : Plant) → mid ≡ record old { clocks = mid.clocks } → HasRoom k old → HasRoom k mid
 room_there k old mid m h = subst (HasRoom k) (sym m) h
 

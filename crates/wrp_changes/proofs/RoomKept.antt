@@ -1,4 +1,4 @@
--- What an event changes by itself leaves the memory that was taken, and steps no clock.
+-- The change that an event makes by itself leaves the memory that was taken, and steps no clock.
 use Rattle.std.proofs.Common.{◌≡◌, ◌∙◌, ap, sym, subst, ℕ, ◌+◌, ◌*◌, ◌==◌, ◌≤◌, ◌^◌, ℤ, Bool, true, false, List, Option, None, Some, slice_get, vec_len, vec_capacity, unsigned_abs, arith}
 use Rattle.wrp_network.specs.declared.network.LinkCfg.{LinkCfg}
 use Rattle.wrp_course.specs.declared.clocks.ClockState.{ClockState}

@@ -1,4 +1,4 @@
--- Memory that is taken changes nothing, and what an event changes by itself leaves the memory that was taken.
+-- Taking memory changes nothing, and the change that an event makes by itself leaves the memory that was taken.
 use Rattle.std.proofs.Common.{◌≡◌, ◌∙◌, refl, ap, sym, subst, ℕ, ℤ, ◌<◌, ◌≤◌, ◌⊎◌, inl, inr, List, Some, slice_get, arith}
 use Rattle.std.specs.List.{AllZip}
 use Rattle.std.proofs.lemmas.Bool.{cases_lt}
@@ -19,12 +19,12 @@ use Rattle.wrp_changes.proofs.Turned.{Came, TurnedTo, each_turned}
 
 -- A loop that takes memory, link by link
 
--- a link is as it was, and has the memory that it had
+-- a link is as it was, and has at least the room that it had
 pub record Keeps (i : ℕ) (old new : Span) : Type 0 where
   pub same : SameSpan i old new
   pub kept : (k : ℕ) → HasSpanRoom k old → HasSpanRoom k new
 
--- and it has memory for so many steps
+-- and it has room for this many steps
 pub record Takes (steps i : ℕ) (old new : Span) : Type 0 where
   pub keeps : Keeps i old new
   pub room : HasSpanRoom steps new
@@ -38,11 +38,11 @@ keeps_itself i x = record { same = record { fibre = refl; master = same_end x.ma
 pub at_any : (i j : ℕ) (x y : Span) → SameSpan i x y → SameSpan j x y
 at_any i j x y h = record { fibre = h.fibre; master = h.master; slave = h.slave }
 
--- all of them, where it has come to the end
+-- all of them, at the end of the loop
 pub took_all : (steps : ℕ) (xs ys : List Span) → EachBecame (Takes steps) xs ys → Each (λ i. HasSpanRoom steps) ys
 took_all steps xs ys t n y e = let it : Came (Takes steps) xs n y = t.1 n y e in it.2.room
 
--- as far as it has come
+-- as far as the loop has come
 pub kept_so_far : (steps i : ℕ) (xs ys : List Span) → TurnedTo (Takes steps) xs ys i → TurnedTo Keeps xs ys i
 kept_so_far steps i xs ys t = record {
   count = t.count;
@@ -63,12 +63,12 @@ same_of_kept xs ys t = (t.0, λ n y e. let it : Came Keeps xs n y = t.1 n y e in
 pub room_of_kept : (k : ℕ) (xs ys : List Span) → EachBecame Keeps xs ys → Each (λ i. HasSpanRoom k) xs → Each (λ i. HasSpanRoom k) ys
 room_of_kept k xs ys t h = each_turned Keeps (λ i. HasSpanRoom k) (λ i. HasSpanRoom k) xs ys t (λ i x y r p. r.kept k p) h
 
--- Where there is no step, all is as it was
+-- If there is no step, everything is as it was
 
 pub same_spans : (spans : List Span) → EachBecame SameSpan spans spans
 same_spans spans = (refl, λ n y e. (y, e, record { fibre = refl; master = same_end y.master; slave = same_end y.slave }))
 
--- What the plant stands for, and its sizes
+-- What the plant stands for, and the ranges of its numbers
 
 end_is : (at : EndAt) (x y : EndState) → SameEnd x y → EndIs at x → EndIs at y
 end_is at x y r h = record {
@@ -127,7 +127,7 @@ same_fits old ys same r room f = subst FitsPlant (sym same) (record {
 fewer_end : (k n : ℕ) (end : EndState) → k ≤ n → HasEndRoom n end → HasEndRoom k end
 fewer_end k n end l h = record { waiting = omega (arith, h.waiting, l); marks = omega (arith, h.marks, l) }
 
--- memory for steps is memory for fewer
+-- room for some steps is room for fewer
 pub fewer_steps : (k n : ℕ) (spans : List Span) → k ≤ n → Each (λ i. HasSpanRoom n) spans → Each (λ i. HasSpanRoom k) spans
 fewer_steps k n spans l h i span at =
     let it = h i span at in record { master = fewer_end k n span.master l it.master; slave = fewer_end k n span.slave l it.slave }

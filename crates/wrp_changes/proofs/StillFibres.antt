@@ -1,4 +1,4 @@
--- Fibres of which none moves.
+-- Fibres that do not change.
 use Rattle.std.proofs.Common.{◌≡◌, ◌∙◌, refl, ap, ap₂, sym, subst, ℕ, zero, suc, ◌+◌, ◌<◌, ◌≤◌, ◌^◌, ◌⊎◌, inl, inr, ℤ, pos, ◌+ℤ◌, unsigned_abs, List, [], ◌∷◌, length, arith}
 use Rattle.std.proofs.lemmas.Int.{ints}
 use Rattle.wrp_course.specs.Moved.{move_of}
@@ -9,7 +9,7 @@ use Rattle.wrp_changes.proofs.Turned.{split}
 abbrev Stays : List (ℤ × ℤ) → ℕ → Type 0
 Stays moves k = move_of moves k ≡ (pos 0, pos 0)
 
--- those so far, and one more
+-- the fibres so far, and one more
 pub still_next : (moves : List (ℤ × ℤ)) (i : ℕ) → ((k : ℕ) → k < i → Stays moves k) → Stays moves i → (k : ℕ) → k < i + 1 → Stays moves k
 still_next moves i h e k l = by_case (split k i (omega (arith, l))) where
   by_case : (k ≡ i) ⊎ (k < i) → Stays moves k

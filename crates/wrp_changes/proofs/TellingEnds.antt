@@ -1,4 +1,4 @@
--- What a node's step makes of the ends of links: of a plant as of the state that it stands for.
+-- How the step of a node changes the ends of links: the plant changes as its state does.
 use Rattle.std.proofs.Common.{◌≡◌, ◌∙◌, refl, ap, sym, subst, ℕ, ◌+◌, ◌==◌, ℤ, Bool, true, false, if◌then◌else◌, List, [], ◌∷◌, ◌++◌, map, reverse, Option, None, Some, option_map}
 use Rattle.std.proofs.lemmas.List.{reverse-append, append-nil}
 use Rattle.std.specs.List.{AllZip}
@@ -33,7 +33,7 @@ use Rattle.wrp_plant.specs.EndRoom.{HasSpanRoom}
 use Rattle.wrp_course.specs.Setting.{Setting, end_of, is_of}
 use Rattle.wrp_course.specs.WorldAt.{WorldAt, EndAt}
 
--- Lists that stand for one another, one behind the other
+-- Lists that stand for one another, appended
 
 put_out_is : (v : WorldAt) (now : ℤ) (m : PtpMsg) (f : List ℕ) → now ≡ v.time → IsSent m f → PutOutIs (sending v m) (put_at now f)
 put_out_is v now m f t h = record { octets = h.octets; says = h.says; at = t }
@@ -108,7 +108,7 @@ span_is s v g step news outs now (Some link) f m a x y t n b q r e h k = (
       (subst (λ d. Where (link.lower == d) (TellsPort now news outs link.lower_port) x.slave y.slave) (sym n) r.slave) k,
 )
 
--- A link is told, and has memory for one step less
+-- A link takes its part of the step, and has room for one step less
 pub record TellsWithRoom (now : ℤ) (news : News) (outs : List Output) (links : List LinkCfg) (k : ℕ) (old new : Span) : Type 0 where
   pub told : TellsAt now news outs links k old new
   pub room : (j : ℕ) → HasSpanRoom (j + 1) old → HasSpanRoom j new

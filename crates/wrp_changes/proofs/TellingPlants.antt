@@ -1,5 +1,5 @@
--- What a node's step makes of a plant: as of the state that the plant stands for, with numbers in their sizes and memory
--- for the steps that are left.
+-- How the step of a node changes a plant: it changes as its state does, its numbers stay in range, and there is room
+-- for the remaining steps.
 use Rattle.std.proofs.Common.{◌≡◌, ◌∙◌, refl, ap, sym, subst, ℕ, zero, suc, ◌+◌, ◌*◌, ◌==◌, ◌≤◌, ◌<◌, ◌^◌, ◌⊎◌, inl, inr, ℤ, pos, ◌+ℤ◌, ◌*ℤ◌, ◌≤ℤ◌, unsigned_abs, Bool, true, false, if◌then◌else◌, List, [], ◌∷◌, ◌++◌, length, map, Option, None, Some, slice_get, arith, lit<}
 use Rattle.std.proofs.Math.Nat.{mul-le-mul}
 use Rattle.std.proofs.lemmas.Int.{unsigned_abs-mul}
@@ -95,7 +95,7 @@ told_is s v g taken step news outs old new c h q = record {
   frames = subst (FramesAre s (stepped_by s v g taken step)) (sym c.of_frames) (record { horizon = h.frames.horizon; count = h.frames.count; sent = h.frames.sent; each = h.frames.each });
 }
 
--- Sizes
+-- Ranges
 
 period_size : (kind : Clock) → period_of kind ≤ 2 ^ 30
 period_size Mhz125 = lit< tt
@@ -109,7 +109,7 @@ step_size cycles period h k =
 off_stepped : (e : ℕ) (off d : ℤ) → unsigned_abs off ≤ 2 ^ 92 * e → unsigned_abs d ≤ 2 ^ 92 → IsOffBy e (off +ℤ d)
 off_stepped e off d h k = omega (arith, abs_sum off d, h, k)
 
--- so far a clock may be stepped
+-- a clock with this offset may be stepped
 abbrev MayMove : ℕ → ℤ → ℤ → Type 0
 MayMove e cycles off = (cycles ≡ pos 0) ⊎ ((unsigned_abs cycles ≤ 2 ^ 62) × (unsigned_abs off ≤ 2 ^ 92 * e))
 
@@ -168,7 +168,7 @@ told_clocks news outs old new c m f n y e =
     where_room (n == news.node) (Steps (cycles_in outs) old.time (period_of old.net.cfg.clock) news.ticked) (FitsClock old.events) it.0 y it.2
     (λ r h. clock_fits old.events (cycles_in outs) old.time old.net.cfg.clock news.ticked it.0 y f.time (move_at outs old n it.0 it.1 m) r h) (f.clocks n it.0 it.1)
 
--- The memory for the steps that are left, and when a frame was put out last
+-- The room for the remaining steps, and when a frame was last put out
 
 pub spare_kept : (old new : Plant) → ((k : ℕ) → HasRoom (k + 1) old → HasRoom k new) → HasRoom 1 old → (n : ℕ) → HasRoom n old → HasRoom (less_one n) new
 spare_kept old new room one zero h = room 0 one
@@ -182,7 +182,7 @@ put_no_sooner : (b : Bool) (before now : ℤ) → before ≤ℤ now → before �
 put_no_sooner true before now h = h
 put_no_sooner false before now h = never_later before
 
--- a frame that is sent is put out now; where none is sent none waits more
+-- a frame that is sent is put out now; if none is sent, no more frames wait
 sent_by : (now z : ℤ) → now ≤ℤ z → (fs : List (List ℕ)) (i : ℕ) (out : PutOut) → slice_get (map (put_at now) fs) i ≡ Some out → out.at ≤ℤ z
 sent_by now z h [] i out g = absurd (none-some out g)
 sent_by now z h (f ∷ fs) zero out g = subst (λ (o : PutOut). o.at ≤ℤ z) (same_Some (put_at now f) out g) h

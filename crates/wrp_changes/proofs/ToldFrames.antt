@@ -1,4 +1,4 @@
--- Only the sending of a Sync and of a Delay_Req is told: what octets of another messageType say is none of these.
+-- Only the sending of a Sync and of a Delay_Req is reported: octets of another messageType are neither.
 use Rattle.std.proofs.Common.{◌≡◌, ◌∙◌, refl, ap, sym, ℕ, ◌%◌, ◌==◌, ◌||◌, Bool, true, false, if◌then◌else◌, List, [], ◌∷◌, Option, None, Some, arith}
 use Rattle.std.proofs.lemmas.Bool.{true≢false}
 use Rattle.wrp_base.specs.declared.message.PtpMsg.{PtpMsg}
@@ -9,7 +9,7 @@ use Rattle.wrp_frame.specs.declared.message_type.MessageType.TheVariants.{Sync, 
 use Rattle.wrp_frame.specs.Grammar.{Spells}
 use Rattle.wrp_changes.specs.Giving.{is_told, sent_by, sent_in}
 
--- the kinds whose sending is told
+-- the kinds of messages whose sending is reported
 abbrev told : Option MessageType → Bool
 told (Some Sync) = true
 told (Some DelayReq) = true

@@ -1,4 +1,4 @@
--- Lists of which each element became what stands at its place.
+-- Lists in which each element comes from the element at the same place.
 use Rattle.std.proofs.Common.{◌≡◌, ◌∙◌, refl, ap, sym, subst, ℕ, zero, suc, ◌+◌, ◌<◌, ◌≤◌, ◌==◌, ◌⊎◌, inl, inr, Bool, true, false, List, [], ◌∷◌, length, slice_set, slice_get, slice_index_or, Some, arith}
 use Rattle.std.proofs.lemmas.Option.{slice_get-get_or, slice_get_within, none-some, same_Some}
 use Rattle.std.proofs.lemmas.Bool.{eqb-true}
@@ -24,7 +24,7 @@ put_else (x ∷ xs) zero (suc n) v h = refl
 put_else (x ∷ xs) (suc i) zero v h = refl
 put_else (x ∷ xs) (suc i) (suc n) v h = put_else xs i n v (λ e. h (ap suc e))
 
--- a loop has come to the place i: what stands before it was turned, the others are as they were
+-- a loop has come to place i: the elements before it have changed, the others are as they were
 pub record TurnedTo {A : Type 0} (R : ℕ → A → A → Type 0) (xs ys : List A) (i : ℕ) : Type 0 where
   pub count : length ys ≡ length xs
   pub done : (n : ℕ) (y : A) → n < i → slice_get ys n ≡ Some y → (x : A) × (slice_get xs n ≡ Some x) × R n x y
@@ -40,7 +40,7 @@ split zero (suc i) h = inr (omega arith)
 split (suc n) zero h = absurd (omega arith)
 split (suc n) (suc i) h = split_up n i (split n i (omega arith))
 
--- where what stands at a place came from
+-- the element that the one at this place came from
 abbrev pub Came : {A : Type 0} → (ℕ → A → A → Type 0) → List A → ℕ → A → Type 0
 Came {A} R xs n y = (x : A) × (slice_get xs n ≡ Some x) × R n x y
 
@@ -73,12 +73,12 @@ turned_next R xs ys i x v h e r t =
 pub turned_all : {A : Type 0} (R : ℕ → A → A → Type 0) (xs ys : List A) (i : ℕ) → length ys ≤ i → TurnedTo R xs ys i → EachBecame R xs ys
 turned_all R xs ys i h t = (t.count, λ n y e. let l : n < length ys = slice_get_within ys n y e in t.done n y (omega (arith, h, l)) e)
 
--- what the loop has not come to is as it was
+-- the elements that the loop has not reached are as they were
 pub still : {A : Type 0} (R : ℕ → A → A → Type 0) (xs ys : List A) (i : ℕ) (x : A) → i < length ys → x ≡ slice_index_or ys i x →
     TurnedTo R xs ys i → slice_get xs i ≡ Some x
 still R xs ys i x h e t = sym (t.left i (omega arith)) ∙ slice_get-get_or ys i x h ∙ ap (λ y. Some y) (sym e)
 
--- what holds of each, of each that it became
+-- if R leads from P to Q, and P holds of each element, Q holds of each that it became
 pub each_turned : {A : Type 0} (R : ℕ → A → A → Type 0) (P Q : ℕ → A → Type 0) (xs ys : List A) → EachBecame R xs ys →
     ((n : ℕ) (x y : A) → R n x y → P n x → Q n y) → Each P xs → Each Q ys
 each_turned R P Q xs ys t f p n y e = let it : Came R xs n y = t.1 n y e in f n it.0 y it.2 (p n it.0 it.1)

@@ -1,5 +1,5 @@
--- How an accepted event begins: its inputs are listed, memory is taken, and it changes by itself all
--- of a world but its nodes (this project's profile).
+-- How an accepted event begins: its inputs are listed, memory is taken, and it makes its own change
+-- to a world without its nodes (this project's profile).
 use Rattle.std.specs.Prelude.{◌≡◌, ℕ, ℤ, List, Result}
 use Rattle.wrp_base.specs.declared.message.PtpMsg.{PtpMsg}
 use Rattle.wrp_frame.specs.declared.fault.FrameFault.{FrameFault}
@@ -16,7 +16,7 @@ use Rattle.wrp_course.specs.Run.{IsSaid}
 use Rattle.wrp_course.specs.Setting.{Setting}
 use Rattle.wrp_course.specs.WorldAt.{WorldAt}
 
--- the inputs that are listed, a frame among which was put out then, are those that the event gives
+-- the listed inputs are the ones that the event gives; a frame among them was put out at the time `put`
 abbrev pub ListsGifts : Plant → Event → ℤ → List NodeOut → Type 0
 ListsGifts plant e put outs =
     (s : Setting) (w : WorldAt) (says : Result PtpMsg FrameFault) →

@@ -1,4 +1,4 @@
--- What an event makes of all of a world but its nodes, by itself (this project's profile).
+-- What an event by itself changes in a world without its nodes (this project's profile).
 use Rattle.std.specs.Prelude.{◌≡◌, ◌+◌, ℕ, true}
 use Rattle.wrp_course.specs.declared.event.Event.{Event}
 use Rattle.wrp_course.specs.declared.event.Event.TheVariants.{Arrive, Deliver, Noise}
@@ -10,19 +10,19 @@ use Rattle.wrp_changes.specs.Room.{HasRoom}
 use Rattle.wrp_course.specs.Setting.{Setting}
 use Rattle.wrp_course.specs.WorldAt.{WorldAt, is_on_fibre}
 
--- where a node is handed octets, its clock may still be stepped in this event
+-- if a node is handed octets, its clock may still be stepped in this event
 abbrev pub MayStepAfter : Event → Plant → Type 0
 MayStepAfter (Deliver i) plant = NoneStepped plant
 MayStepAfter (Noise n p octets raw) plant = NoneStepped plant
 MayStepAfter _ plant = Unit {0}
 
--- a frame arrives only where it is on a fibre
+-- a frame arrives only if it is on a fibre
 abbrev pub MayMove : WorldAt → Event → Type 0
 MayMove w (Arrive j raw) = is_on_fibre (w.frame j) ≡ true
 MayMove w _ = Unit {0}
 
--- the plant stands for what the event makes of each state that it stood for and in which it may move, and the event is
--- counted
+-- if the old plant stands for a state in which the event may come, the new plant stands for what the event makes of
+-- it; and the event is counted
 pub record Changes (e : Event) (old new : Plant) : Type 0 where
   pub is : (s : Setting) (w : WorldAt) → MayMove w e → PlantIs s w old → PlantIs s (moved s w e) new
   pub fits : FitsPlant new

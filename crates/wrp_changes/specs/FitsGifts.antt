@@ -1,4 +1,4 @@
--- Which inputs a node of a network can take, as far as its count of ticks is not asked (this project's profile).
+-- Which inputs a node of a network can take, apart from its count of ticks (this project's profile).
 use Rattle.std.specs.Prelude.{ℕ, ◌≡◌, ◌<◌, true}
 use Rattle.wrp_network.specs.declared.configuration.NetCfg.{NetCfg}
 use Rattle.wrp_network.specs.Network.{node_count}
@@ -9,7 +9,7 @@ use Rattle.wrp_port.specs.PortAt.{IsStamp}
 use Rattle.wrp_course.specs.declared.node_out.NodeOut.{NodeOut}
 use Rattle.wrp_course.specs.Setting.{has_port}
 
--- the port is one of the node's, and numbers are in their ranges
+-- the port belongs to the node, and numbers are in their ranges
 abbrev pub FitsNode : NetCfg → ℕ → Input → Type 0
 FitsNode cfg n Tick = Unit {0}
 FitsNode cfg n (Sample number base bits) = base < 16_384
@@ -18,7 +18,7 @@ FitsNode cfg n (Sent p seq delay stamp) = (has_port cfg n p ≡ true) × IsStamp
 FitsNode cfg n (Carrier p up own_module) = has_port cfg n p ≡ true
 FitsNode cfg n Reset = Unit {0}
 
--- an input that is listed goes to a node of the network, and can come there
+-- a listed input goes to a node of the network, which can take it
 pub record FitsGift (cfg : NetCfg) (out : NodeOut) : Type 0 where
   pub node : out.node < node_count cfg
   pub input : FitsNode cfg out.node out.input

@@ -20,7 +20,7 @@ from_of d = record { link = d.link; role = d.by }
 
 -- A departure
 
--- the oldest that waits at an end is taken away
+-- the oldest frame that waits at an end is removed
 pub record LosesOldest (old new : EndState) : Type 0 where
   pub name : new.name ≡ old.name
   pub tx : new.tx ≡ old.tx
@@ -30,18 +30,18 @@ pub record LosesOldest (old new : EndState) : Type 0 where
   pub room : vec_capacity new.waiting ≡ vec_capacity old.waiting
   pub marks : new.marks ≡ old.marks
 
--- at the end of this role
+-- the same at the end with this role
 pub record TakesOldest (role : Role) (old new : Span) : Type 0 where
   pub fibre : new.fibre ≡ old.fibre
   pub master : Where (is_role role Master) LosesOldest old.master new.master
   pub slave : Where (is_role role Slave) LosesOldest old.slave new.slave
 
--- the delay of a frame from an end
+-- the delay of a frame from an end, in tau
 abbrev pub delay_in : Span → Role → ℤ
 delay_in span Master = down_in span
 delay_in span Slave = up_in span
 
--- the oldest of those that wait, as it departs from this end: as the code keeps it, and of the state
+-- the oldest waiting frame, as it departs from this end: in the code, and in the state
 abbrev pub departed_of : Place → (due : ℤ) → List PutOut → Option Departed
 departed_of place due [] = None
 departed_of place due (oldest ∷ rest) = Some (record {

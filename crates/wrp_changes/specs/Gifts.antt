@@ -13,17 +13,17 @@ use Rattle.wrp_course.specs.Moved.{moved}
 use Rattle.wrp_course.specs.Setting.{Setting}
 use Rattle.wrp_course.specs.WorldAt.{WorldAt}
 
--- what is noted beside a frame is what its octets say, and when it was put out
+-- what is noted with a frame is what its octets say, and the time at which it was put out
 abbrev pub IsRead : ℤ → Result PtpMsg FrameFault → ℤ → Input → Type 0
 IsRead put says at (Frame p octets raw sample) = Says octets.items says × (at ≡ put)
 IsRead put says at _ = Unit {0}
 
--- an input that is listed; a frame among them was put out then
+-- an input that is listed; if it is a frame, it was put out at the time `put`
 pub record GiftIs (put : ℤ) (g : Given) (out : NodeOut) : Type 0 where
   pub node : out.node ≡ g.to
   pub input : out.input ≡ g.input
   pub read : IsRead put g.says g.at g.input
 
--- all that the event gives, in its order
+-- all inputs that the event gives, in order
 abbrev pub AreGifts : Setting → WorldAt → Result PtpMsg FrameFault → Event → ℤ → List NodeOut → Type 0
 AreGifts s w says e put outs = AllZip (GiftIs put) (given_by s w (moved s w e) says e) outs

@@ -1,4 +1,4 @@
--- What the code lists of an event, before the nodes take it: part by part, and all of it (this project's profile).
+-- The inputs of an event as the code lists them before the nodes take them: by parts, and all (this project's profile).
 use Rattle.std.specs.Prelude.{ℕ, ℤ, pos, ◌≡◌, ◌≤◌, ◌%◌, ◌==◌, ◌||◌, ◌++◌, Bool, true, false, List, [], ◌∷◌, length, flat_map, Option, None, Some, Result}
 use Rattle.std.specs.List.{AllByRecursion, AllZip}
 use Rattle.std.specs.Option.{option_map_or}
@@ -31,14 +31,14 @@ use Rattle.wrp_course.specs.Run.{IsSaid}
 use Rattle.wrp_course.specs.Setting.{Setting, end_at, entry_at, place_of}
 use Rattle.wrp_course.specs.WorldAt.{Sending, WorldAt}
 
--- when the frame that an event hands over was put out, in true time; 0 where it hands over none
+-- the true time at which the frame that an event hands over was put out, in tau; 0 if it hands over none
 abbrev pub put_of : Plant → Event → ℤ
 put_of plant (Deliver i) = option_map_or (λ t. t) (sent_at i plant.frames.sent) (pos 0)
 put_of plant _ = pos 0
 
 -- Entries
 
--- an input that is listed, and has not been taken
+-- an input that is listed and not yet taken
 abbrev pub listed : Gift → NodeOut
 listed gift = record { node = gift.node; input = gift.input; outs = record { items = [] } }
 
@@ -46,7 +46,7 @@ abbrev pub entries_of : Option Gift → List NodeOut
 entries_of None = []
 entries_of (Some gift) = listed gift ∷ []
 
--- this input is listed alone, whatever stands beside it
+-- only this input is listed, whatever outputs the entry holds
 pub record IsListedAlone (gift : Gift) (outs : List NodeOut) : Type 0 where
   pub beside : ArrayVec Output
   pub items : outs ≡ record { node = gift.node; input = gift.input; outs = beside } ∷ []
@@ -57,12 +57,12 @@ IsListed (Some gift) outs = IsListedAlone gift outs
 
 -- The sending of a frame
 
--- octets whose messageType is that of a Sync or of a Delay_Req: no sending of others is told
+-- the octets have the messageType of a Sync or of a Delay_Req: no other sending is reported
 abbrev pub is_told : List ℕ → Bool
 is_told [] = false
 is_told (first ∷ rest) = (first % 16 == 0x0) || (first % 16 == 0x1)
 
--- the input that tells it at a port, if it is told
+-- the input that reports it at a port, if it is reported
 abbrev pub sent_in : (p seq : ℕ) → Stamp → Body → Option Input
 sent_in p seq stamp (Sync origin) = Some (Sent p seq false stamp)
 sent_in p seq stamp (DelayReq origin) = Some (Sent p seq true stamp)
@@ -71,14 +71,14 @@ sent_in p seq stamp _ = None
 abbrev pub sent_by : ℕ → Stamp → PtpMsg → Option Input
 sent_by p stamp message = sent_in p message.head.seq stamp message.body
 
--- of the oldest of these
+-- the same for the oldest of these frames
 abbrev pub sent_first : ℕ → Stamp → List Sending → Option Input
 sent_first p stamp [] = None
 sent_first p stamp (oldest ∷ rest) = sent_by p stamp oldest.message
 
--- Inputs that are no frames, behind those that are listed
+-- Inputs that are not frames, listed after those that are there
 
--- at most so many are listed more, which the nodes can take: for each state that the plant stands for, these
+-- at most this many inputs are added, and the nodes can take them: for each state that the plant stands for, these
 pub record Adds (plant : Plant) (most : ℕ) (gives : Setting → WorldAt → List Given) (old new : List NodeOut) : Type 0 where
   pub more : List NodeOut
   pub items : new ≡ old ++ more
@@ -86,7 +86,7 @@ pub record Adds (plant : Plant) (most : ℕ) (gives : Setting → WorldAt → Li
   pub fit : AllByRecursion (FitsGift plant.net.cfg) more
   pub gifts : (s : Setting) (w : WorldAt) → PlantIs s w plant → AllZip (GiftIs (pos 0)) (gives s w) more
 
--- a carrier comes at an end of a link, over the module of this name, and at both ends
+-- a carrier comes at an end of a link with the module of this name, and the same at both ends
 abbrev pub comes_over : Setting → ℕ → Role → List ℕ → List Given
 comes_over s k r name =
     option_map_or (λ end. given_plain end.node (Carrier end.port true (entry_at s k r name)) ∷ []) (end_at s k r) []
@@ -94,22 +94,22 @@ comes_over s k r name =
 abbrev pub comes_over_both : Setting → ℕ → Role → (own other : List ℕ) → List Given
 comes_over_both s k r own other = comes_over s k r own ++ comes_over s k (other_of r) other
 
--- at the ports of these numbers that a node has
+-- at the node's ports with these numbers
 abbrev pub at_numbers : Setting → WorldAt → (ℕ → Role → List Given) → ℕ → List ℕ → List Given
 at_numbers s w gives n ps = flat_map (λ p. if_carried s w gives (place_of s n p)) ps
 
--- the name of the module that is in place at an end once these are put in place at its node, if it is the node's
+-- the name of the module at an end after these swaps at its node, if the end belongs to the node
 abbrev pub name_with : Bool → ℕ → List Swap → List ℕ → List ℕ
 name_with true p swaps name = option_map_or (λ swap. swap.name.bytes) (swap_at p swaps) name
 name_with false p swaps name = name
 
--- a node comes up with these modules
+-- the world after a node came up with these modules
 abbrev pub up_of : Setting → WorldAt → ℕ → ℤ → ArrayVec Swap → WorldAt
 up_of s w n off swaps = moved s w (Up n off swaps)
 
--- All of it
+-- All inputs
 
--- what an event gives is listed: the inputs, which are few, and which the nodes can take
+-- all inputs of an event are listed: at most 37, which the nodes can take
 pub record Gives (plant : Plant) (e : Event) (outs : List NodeOut) : Type 0 where
   pub gifts :
       (s : Setting) (w : WorldAt) (says : Result PtpMsg FrameFault) → ((n : ℕ) → s.set n ≡ set_of s.cfg n) →

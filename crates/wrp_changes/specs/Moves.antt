@@ -1,4 +1,4 @@
--- What an event does to the parts of a plant as the code keeps them (this project's profile).
+-- What an event does to the parts of a plant, as the code keeps them (this project's profile).
 use Rattle.std.specs.Prelude.{◌≡◌, ◌+◌, ◌==◌, ◌||◌, ◌≤◌, ◌+ℤ◌, ◌^◌, ℕ, ℤ, Bool, true, false, unsigned_abs, List, [], length, Option, None, Some, option_map, slice_get, vec_len, vec_capacity}
 use Rattle.wrp_base.specs.declared.link.Role.TheVariants.{Master, Slave}
 use Rattle.wrp_network.specs.declared.network.LinkCfg.{LinkCfg}
@@ -12,16 +12,16 @@ use Rattle.wrp_plant.specs.declared.plant.Plant.{Plant}
 use Rattle.wrp_course.specs.Moved.{drift_of, move_of, swap_at}
 use Rattle.wrp_course.specs.Setting.{end_of, is_of}
 
--- each of a list became what stands at its place: from what it was, by its number
+-- two lists of the same length: each element of the second comes from the element at the same place in the first, by R
 abbrev pub EachBecame : {A : Type 0} → (ℕ → A → A → Type 0) → List A → List A → Type 0
 EachBecame {A} R xs ys = (length ys ≡ length xs) × ((n : ℕ) (y : A) → slice_get ys n ≡ Some y → (x : A) × (slice_get xs n ≡ Some x) × R n x y)
 
--- one that changes where it is so, and else stays
+-- a change that is made if the test is true; otherwise nothing changes
 abbrev pub Where : {A : Type 0} → Bool → (A → A → Type 0) → A → A → Type 0
 Where true C old new = C old new
 Where false C old new = new ≡ old
 
--- only what stands at this place changes
+-- only the element at this place changes
 abbrev pub At : {A : Type 0} → ℕ → (A → A → Type 0) → ℕ → A → A → Type 0
 At k C n old new = Where (n == k) C old new
 
@@ -45,7 +45,7 @@ ComesUp off now old new = new ≡ record { up = true; off = off; ticked = now; s
 
 -- Fibres and ends
 
--- the fibre of a link becomes this one, and both its ends stay
+-- the fibre of a link becomes this one, and both its ends stay as they are
 pub record HasFibre (after : FibreState) (old new : Span) : Type 0 where
   pub fibre : new.fibre ≡ after
   pub master : new.master ≡ old.master
@@ -59,7 +59,7 @@ pub record Moves (moves : List (ℤ × ℤ)) (k : ℕ) (old new : Span) : Type 0
 abbrev pub Joins : (ms sm : ℤ) → (old new : Span) → Type 0
 Joins ms sm old new = HasFibre (record { joined = true; ms = ms; sm = sm }) old new
 
--- what waited at an end is lost
+-- the frames that waited at an end are lost
 pub record Empties (old new : EndState) : Type 0 where
   pub name : new.name ≡ old.name
   pub tx : new.tx ≡ old.tx
@@ -69,7 +69,7 @@ pub record Empties (old new : EndState) : Type 0 where
   pub room : vec_capacity new.waiting ≡ vec_capacity old.waiting
   pub marks : new.marks ≡ old.marks
 
--- the fibre of a link becomes this one, and what waited at both ends is lost
+-- the fibre of a link becomes this one, and the frames that waited at both ends are lost
 pub record Loses (after : FibreState) (old new : Span) : Type 0 where
   pub fibre : new.fibre ≡ after
   pub master : Empties old.master new.master
@@ -81,17 +81,17 @@ Cuts old new = Loses (record old.fibre { joined = false }) old new
 abbrev pub Drops : (old new : Span) → Type 0
 Drops old new = Loses old.fibre old new
 
--- an end of this link, if there is one, is this node's
+-- an end of this link, if there is one, belongs to this node
 abbrev pub touches_in : ℕ → Option LinkCfg → Bool
 touches_in n link = is_of n (option_map (end_of Master) link) || is_of n (option_map (end_of Slave) link)
 
--- at the links of a node
+-- the same at the links of a node
 abbrev pub DropsAt : ℕ → List LinkCfg → ℕ → (old new : Span) → Type 0
 DropsAt n links k old new = Where (touches_in n (slice_get links k)) Drops old new
 
--- Modules that are put in place
+-- Modules that are installed
 
--- a module is in place at an end
+-- a module is installed at an end
 pub record Put (swap : Swap) (old new : EndState) : Type 0 where
   pub name : new.name.bytes ≡ swap.name.bytes
   pub tx : new.tx ≡ swap.tx
@@ -103,7 +103,7 @@ abbrev pub Swapped : Option Swap → (old new : EndState) → Type 0
 Swapped None old new = new ≡ old
 Swapped (Some swap) old new = Put swap old new
 
--- at the ends of a link that are a node's
+-- the same at the ends of a link that belong to a node
 pub record SwapsSpan (n : ℕ) (link : LinkCfg) (swaps : List Swap) (old new : Span) : Type 0 where
   pub fibre : new.fibre ≡ old.fibre
   pub master : Where (link.upper == n) (Swapped (swap_at link.upper_port swaps)) old.master new.master
@@ -124,7 +124,7 @@ Same old new = new ≡ old
 abbrev pub SameFrames : (old new : FramesAt) → Type 0
 SameFrames old new = new ≡ old
 
--- an event changed the clocks, the links and the frames of a plant so, and made the time this one
+-- what an event did to a plant: these changes of its clocks, links and frames, and its new time
 pub record Changed (clocks : List ClockState → List ClockState → Type 0) (spans : List Span → List Span → Type 0) (frames : FramesAt → FramesAt → Type 0) (now : ℤ) (old new : Plant) : Type 0 where
   pub cfg : new.net.cfg ≡ old.net.cfg
   pub db : new.net.db ≡ old.net.db

@@ -6,11 +6,11 @@ use Rattle.wrp_plant.specs.declared.plant.Plant.{Plant}
 use Rattle.wrp_plant.specs.EndRoom.{HasSpanRoom}
 use Rattle.wrp_plant.specs.Plant.{Each}
 
--- each end of each link has places for so many steps of nodes
+-- each end of each link has room for this many steps of nodes
 abbrev pub HasRoom : ℕ → Plant → Type 0
 HasRoom steps plant = Each (λ k. HasSpanRoom steps) plant.spans.items
 
--- an end is as it was, but for places that may be more
+-- an end is as it was, but may have more room
 pub record SameEnd (old new : EndState) : Type 0 where
   pub name : new.name ≡ old.name
   pub tx : new.tx ≡ old.tx

@@ -16,8 +16,9 @@ use std::alloc::AllocError;
 use wrp_course::{Event, NodeOut};
 use wrp_plant::Plant;
 
-/// An accepted event begins: its inputs are listed, and memory is taken for all that comes of
-/// them. Then it changes the plant by itself. Where memory could not be had, nothing changes.
+/// Begins an accepted event: lists its inputs in `outs`, takes all the memory that they may need,
+/// and then makes the event's own change to the plant. `AllocError` if there is not enough memory.
+/// Then the plant is as it was, with no event counted; the contents of `outs` are not specified.
 pub fn begin(
     plant: &mut Plant,
     event: &Event,

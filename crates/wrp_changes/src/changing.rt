@@ -1,4 +1,4 @@
-//! What an event changes by itself, whatever it is.
+//! The change that an event makes by itself, for each kind of event.
 ghost use Rattle.std.specs.Prelude.{◌≡◌, ◌<◌, ◌+◌, ◌^◌, ℕ, OnOk, OnErr};
 ghost use Rattle.wrp_changes.specs.Changes.{Changes, MayMove, MayStepAfter};
 ghost use Rattle.wrp_course.specs.EventAt.{IsEventOf};
@@ -15,7 +15,7 @@ use std::alloc::AllocError;
 use wrp_course::Event;
 use wrp_plant::Plant;
 
-// What an event changes by itself.
+// Makes the change of an event.
 fn change_by(plant: &mut Plant, event: &Event) -> Result<(), AllocError>
     requires fits { FitsPlant plant.old }
     requires event { IsEventOf plant.old.net.cfg event.now }
@@ -68,8 +68,8 @@ fn change_by(plant: &mut Plant, event: &Event) -> Result<(), AllocError>
     }
 }
 
-/// What an event changes by itself, before any node is given an input. Where the memory for a frame
-/// that departs could not be had, nothing changes.
+/// Makes the change of an event, before any node is given an input, and counts the event.
+/// `AllocError` if there is not enough memory for a frame that departs; then nothing changes.
 pub fn change(plant: &mut Plant, event: &Event) -> Result<(), AllocError>
     requires fits { FitsPlant plant.old }
     requires event { IsEventOf plant.old.net.cfg event.now }

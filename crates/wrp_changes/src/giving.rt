@@ -1,4 +1,4 @@
-//! The inputs that an event gives to the nodes, listed before anything changes.
+//! The inputs that an event gives to the nodes. They are listed before anything changes.
 mod down;
 mod ends;
 mod frames;
@@ -36,11 +36,11 @@ use wrp_base::{Frame, Raw, Tau};
 use wrp_course::{Event, NodeOut};
 use wrp_plant::Plant;
 
-/// The greatest number of a port.
+/// The greatest port number.
 const LAST_PORT: u16 = 18;
 
-/// The true time at which the frame that an event hands over was put out; 0 where it hands over
-/// none.
+/// The true time at which the frame that an event hands over was put out, in tau. 0 if the event hands over no
+/// frame.
 pub fn put_out_at(plant: &Plant, event: &Event) -> Tau
     requires { FitsPlant plant.now }
     ensures { result ≡ put_of plant.now event.now }
@@ -51,7 +51,7 @@ pub fn put_out_at(plant: &Plant, event: &Event) -> Tau
     }
 }
 
-// The input of an event that gives one at most, listed alone.
+// Lists the input of an event that gives at most one.
 fn list(
     plant: &Plant,
     gift: Option<Gift>,
@@ -64,10 +64,10 @@ fn list(
     put(outs, aside, gift)
 }
 
-// Each kind of event that gives one input lists it in a call of its own: the place of an input is cleared when
-// such a call begins, and no other event is to wait for it.
+// Each kind of event that gives one input has a function of its own that lists it. Such a function clears room
+// for the input when it is called, and other events are not slowed down by that.
 
-// What a tick gives, listed alone.
+// Lists the input of a tick.
 #[inline(never)]
 fn list_tick(
     plant: &Plant,
@@ -81,7 +81,7 @@ fn list_tick(
     list(plant, gift_of_tick(plant, n), outs, aside)
 }
 
-// What a sample gives, listed alone.
+// Lists the input of a sample.
 #[inline(never)]
 fn list_sample(
     plant: &Plant,
@@ -100,7 +100,7 @@ fn list_sample(
     list(plant, gift_of_sample(plant, n, base, bits), outs, aside)
 }
 
-// What a departure gives, listed alone.
+// Lists the input of a departure, if it has one.
 #[inline(never)]
 fn list_departure(
     plant: &Plant,
@@ -118,7 +118,7 @@ fn list_departure(
     list(plant, gift_of_departure(plant, n, port, stamp), outs, aside)
 }
 
-// What a frame gives as it is handed over, listed alone.
+// Lists the input of a frame that is handed over, if it has one.
 #[inline(never)]
 fn list_frame(
     plant: &Plant,
@@ -132,7 +132,7 @@ fn list_frame(
     list(plant, gift_of_frame(plant, number), outs, aside)
 }
 
-// What octets give that the peer did not send, listed alone.
+// Lists the input of octets that the peer did not send, if it has one.
 #[inline(never)]
 fn list_noise(
     plant: &Plant,
@@ -156,7 +156,7 @@ fn list_noise(
     )
 }
 
-// Nothing is listed.
+// Lists no input.
 fn list_none(outs: &mut Vec<NodeOut>, aside: &mut Vec<NodeOut>) -> Result<(), AllocError>
     ensures { OnOk result (outs.new.items ≡ []) }
 {
@@ -164,7 +164,7 @@ fn list_none(outs: &mut Vec<NodeOut>, aside: &mut Vec<NodeOut>) -> Result<(), Al
     Ok(())
 }
 
-// What an event gives.
+// Lists the inputs of an event.
 fn give_by(
     plant: &Plant,
     event: &Event,
@@ -200,10 +200,10 @@ fn give_by(
     }
 }
 
-/// The inputs that an event gives to the nodes, in their order, are put into `outs` in place of
-/// what stood there: at most 37. They are computed before the event changes anything. What the
-/// entries' outputs hold is not said, nor what is listed where memory could not be had, nor what
-/// is laid aside.
+/// Lists the inputs that an event gives to the nodes in `outs`, in order, instead of what was there: at most
+/// 37. This happens before the event changes anything. `AllocError` if there is not enough memory; then the
+/// contents of `outs` are not specified. In both cases the outputs in the entries and the contents of `aside`
+/// are not specified.
 pub fn give(
     plant: &Plant,
     event: &Event,

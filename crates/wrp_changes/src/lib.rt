@@ -1,5 +1,5 @@
-//! What an event changes by itself of all of a world but its nodes, which inputs it gives the nodes, and what a node's
-//! step makes of the rest (this project's profile).
+//! What an event changes by itself in a world without its nodes, which inputs it gives to the nodes, and how the step
+//! of a node changes the rest (this project's profile).
 #![tactic(auto)]
 
 mod beginning;

@@ -1,4 +1,4 @@
-//! What an event changes by itself.
+//! The change that an event makes by itself.
 pub mod arrivals;
 mod clocks;
 pub mod departures;
@@ -22,7 +22,8 @@ use wrp_base::Tau;
 use wrp_course::Swap;
 use wrp_plant::Plant;
 
-/// A clock ticks, a frame is handed over, or octets are: a node is told, and nothing else changes.
+/// A clock ticks, a frame is handed over, or octets come: a node gets an input, and nothing else
+/// changes.
 pub fn stay(plant: &mut Plant)
     requires fits { FitsPlant plant.old }
     requires few { plant.old.events + 1 < 2 ^ 32 }
@@ -41,7 +42,7 @@ pub fn stay(plant: &mut Plant)
     parts::stay(plant);
 }
 
-/// True time passes, and clocks and fibres move. It takes no memory.
+/// True time passes, and clocks and fibres change. It takes no memory.
 pub fn pass(
     plant: &mut Plant,
     dt: i64,
@@ -76,7 +77,7 @@ pub fn sample(plant: &mut Plant, n: u8)
     parts::sample(plant, n);
 }
 
-/// A node goes down, and its links lose what waits and what is on their fibres.
+/// A node goes down. Its links lose the frames that wait and those on their fibres.
 pub fn go_down(plant: &mut Plant, n: u8)
     requires fits { FitsPlant plant.old }
     requires node { n < length plant.old.net.cfg.nodes.items }
@@ -91,7 +92,7 @@ pub fn go_down(plant: &mut Plant, n: u8)
     parts::go_down(plant, n);
 }
 
-/// A link is cut, and loses what waits and what is on its fibre.
+/// A link is cut. It loses the frames that wait and those on its fibre.
 pub fn cut(plant: &mut Plant, link: u8)
     requires fits { FitsPlant plant.old }
     requires link { link < length plant.old.net.cfg.links.items }
@@ -106,7 +107,7 @@ pub fn cut(plant: &mut Plant, link: u8)
     parts::cut(plant, link);
 }
 
-/// A link is joined. The delays are in the range of an event.
+/// A link is joined. The delays, in tau, are in the range of an event.
 pub fn join(plant: &mut Plant, link: u8, ms: Tau, sm: Tau)
     requires fits { FitsPlant plant.old }
     requires link { link < length plant.old.net.cfg.links.items }
@@ -123,7 +124,8 @@ pub fn join(plant: &mut Plant, link: u8, ms: Tau, sm: Tau)
     parts::join(plant, link, ms, sm);
 }
 
-/// A node comes up, with the modules that are put in place. The offset is in the range of an event.
+/// A node comes up with the modules that these swaps install. The offset, in tau, is in the range
+/// of an event.
 pub fn come_up(plant: &mut Plant, n: u8, off: Tau, swaps: &ArrayVec<Swap, 18>)
     requires fits { FitsPlant plant.old }
     requires node { n < length plant.old.net.cfg.nodes.items }

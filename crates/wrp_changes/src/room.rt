@@ -10,10 +10,10 @@ ghost use Rattle.wrp_course.specs.WorldAt.{WorldAt};
 use std::alloc::AllocError;
 use wrp_plant::{EndState, Plant, Span};
 
-/// For so many steps places are taken at least, so that the ends are seldom looked at.
+/// Memory is taken for at least this many steps at once, so that the ends are seldom looked at.
 const STEPS: u8 = 8;
 
-// Whether an end has places for so many steps.
+// Whether an end has room for this many steps.
 fn has_places(end: &EndState, steps: u8) -> bool
     ensures { result ≡ true → HasEndRoom steps end.now }
 {
@@ -22,7 +22,7 @@ fn has_places(end: &EndState, steps: u8) -> bool
     4 * usize::from(steps) <= frames && usize::from(steps) <= marks
 }
 
-// Places for so many steps at an end.
+// Takes memory for this many steps at an end.
 fn reserve_end(end: &mut EndState, steps: u8) -> Result<(), AllocError>
     ensures same { SameEnd end.old end.new }
     ensures room { OnOk result (HasEndRoom steps end.new) }
@@ -33,7 +33,7 @@ fn reserve_end(end: &mut EndState, steps: u8) -> Result<(), AllocError>
     Ok(())
 }
 
-// Places for so many steps at both ends of a link.
+// Takes memory for this many steps at both ends of a link.
 fn reserve_both(span: &mut Span, steps: u8) -> Result<(), AllocError>
     ensures same { SameSpan 0 span.old span.new }
     ensures room { OnOk result (HasSpanRoom steps span.new) }
@@ -44,7 +44,7 @@ fn reserve_both(span: &mut Span, steps: u8) -> Result<(), AllocError>
     Ok(())
 }
 
-// The same; nothing is asked for where the places are there.
+// The same; nothing is asked for if there is room already.
 fn reserve_span(span: &mut Span, steps: u8) -> Result<(), AllocError>
     ensures same { SameSpan 0 span.old span.new }
     ensures room { OnOk result (HasSpanRoom steps span.new) }
@@ -56,7 +56,7 @@ fn reserve_span(span: &mut Span, steps: u8) -> Result<(), AllocError>
     reserve_both(span, steps)
 }
 
-// Places for so many steps at all ends.
+// Takes memory for this many steps at all ends.
 fn reserve_all(spans: &mut Vec<Span>, steps: u8) -> Result<(), AllocError>
     ensures same { EachBecame SameSpan spans.old.items spans.new.items }
     ensures room { OnOk result (Each (λ i. HasSpanRoom steps) spans.new.items) }
@@ -69,16 +69,16 @@ fn reserve_all(spans: &mut Vec<Span>, steps: u8) -> Result<(), AllocError>
     Ok(())
 }
 
-// For how many steps places are taken at once, where they are needed for so many.
+// For how many steps memory is taken at once, if this many are needed.
 fn at_once(steps: u8) -> u8
     ensures { steps ≤ result }
 {
     if steps < STEPS { STEPS } else { steps }
 }
 
-/// Takes the memory that so many steps of nodes may need: at each end of each link, places for four
-/// frames and a mark a step; no end is looked at where all are known to have them. Nothing else changes, also where
-/// memory could not be had.
+/// Takes the memory that this many steps of nodes may need: at each end of each link, room for four frames and one
+/// mark for each step. No end is looked at if all are known to have the room. `AllocError` if there is not enough
+/// memory. Apart from the room, nothing changes, and room that was there stays, in both cases.
 pub fn reserve(plant: &mut Plant, steps: u8) -> Result<(), AllocError>
     requires fits { FitsPlant plant.old }
     ensures room { OnOk result (HasRoom steps plant.new) }

@@ -1,4 +1,4 @@
-//! What a node's step makes of the rest of the world.
+//! How the step of a node changes the rest of the world.
 mod clock;
 pub mod ends;
 mod reads;
@@ -20,7 +20,7 @@ use wrp_base::{Tau, WrMsg};
 use wrp_node::{Output, PortStates};
 use wrp_plant::Plant;
 
-/// What is told of a node's step beside its outputs.
+/// What is reported of a node's step, apart from its outputs.
 #[derive(Debug, Drop)]
 pub struct News {
     /// The node.
@@ -31,19 +31,19 @@ pub struct News {
     pub before: PortStates,
     /// The link states of its ports after the step.
     pub after: PortStates,
-    /// The White Rabbit message that it was given, if it was one, with the true time at which it was
-    /// put out.
+    /// The White Rabbit message that it was given, if it was one, with the true time at which the message
+    /// was put out, in tau.
     pub by: Option<(WrMsg, Tau)>,
 }
 
-// One less, if there is one.
+// One less, or 0 if there is none.
 fn one_less(spare: u8) -> u8
     ensures { result ≡ less_one spare }
 {
     if spare == 0 { 0 } else { spare - 1 }
 }
 
-// It is noted whether a frame is put out now, and that places for a step are taken.
+// Notes that a step's room is used up, and whether a frame is put out now.
 fn note(plant: &mut Plant, sends: bool)
     requires { IsTime plant.old.time }
     ensures { plant.new ≡ record plant.old {
@@ -57,7 +57,7 @@ fn note(plant: &mut Plant, sends: bool)
     plant.spare = one_less(plant.spare);
 }
 
-// A node's clock is stepped, and its tick noted.
+// Steps a node's clock, and notes its tick.
 fn step_clock(plant: &mut Plant, news: &News, outs: &[Output])
     requires fits { FitsPlant plant.old }
     requires node { news.now.node < length plant.old.net.cfg.nodes.items }
@@ -88,7 +88,7 @@ fn is_quiet(news: &News, outs: &[Output]) -> bool
     }
 }
 
-// A step is told to the ends of the node's links.
+// Reports a step to the ends of the node's links.
 fn tell_ends(plant: &mut Plant, news: &News, outs: &[Output])
     requires time { IsTime plant.old.time }
     requires few { SendsFew outs.now }
@@ -106,8 +106,8 @@ fn tell_ends(plant: &mut Plant, news: &News, outs: &[Output])
     note(plant, reads::sends(outs));
 }
 
-// The same; where the step sends nothing and changes no link state, no end is looked at, and the places that
-// were taken are left.
+// The same. If the step sends nothing and changes no link state, no end is looked at, and the room that was
+// taken is kept.
 fn tell_where(plant: &mut Plant, news: &News, outs: &[Output])
     requires time { IsTime plant.old.time }
     requires few { SendsFew outs.now }
@@ -119,7 +119,7 @@ fn tell_where(plant: &mut Plant, news: &News, outs: &[Output])
     }
 }
 
-// A node's step is told to all parts.
+// Reports a node's step to all parts.
 fn tell(plant: &mut Plant, news: &News, outs: &[Output])
     requires fits { FitsPlant plant.old }
     requires node { news.now.node < length plant.old.net.cfg.nodes.items }
@@ -135,9 +135,9 @@ fn tell(plant: &mut Plant, news: &News, outs: &[Output])
     tell_where(plant, news, outs);
 }
 
-/// A node's step is told to the rest of the world: the clock moves by the periods among the outputs,
-/// a tick is noted, each frame among them waits at the end that its port is, and each changed link
-/// state is marked. The memory for it was taken before.
+/// Reports a node's step to the rest of the world: the clock moves by the periods among the outputs, a tick
+/// is noted, each frame among the outputs waits at its port's end, and each changed link state is marked.
+/// The memory for this was taken before.
 pub fn told(plant: &mut Plant, news: &News, outs: &[Output])
     requires fits { FitsPlant plant.old }
     requires node { news.now.node < length plant.old.net.cfg.nodes.items }

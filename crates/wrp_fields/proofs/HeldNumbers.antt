@@ -1,4 +1,4 @@
--- Numbers that are held at a limit are out of range as they were before.
+-- A number that was cut to a limit beyond the range is out of range, as it was before.
 use Rattle.std.proofs.Common.{◌≡◌, ◌⊎◌, inl, inr, ℕ, ℤ, pos, negsuc, neg_ℤ, zero, suc, ◌<◌, ◌≤◌, ◌-◌, ◌^◌, min, false, Option, None, Some, refl, sym, ap, ◌∙◌, arith}
 use Rattle.std.specs.Prelude.{int_le, unsigned_abs, unwrap_or, option_map, option_and_then}
 use Rattle.std.proofs.lemmas.Bool.{lt-leb, cases_lt}
@@ -23,13 +23,13 @@ kept_below_at least greatest n limit small (inr over) =
     outside_below least greatest (neg_ℤ (pos (min n limit))) (past_below least (min n limit) limit small held)
     ∙ sym (outside_below least greatest (neg_ℤ (pos n)) (past_below least n limit small over))
 
--- the opposite of a number held at a limit that no number of the range reaches is kept as it was
--- before
+-- the opposite of a number that was cut to a limit beyond the range is kept exactly if the opposite
+-- of the number itself is kept
 kept_held_below : (least greatest : ℤ) (n limit : ℕ) → unsigned_abs least < limit
     → kept_in least greatest (neg_ℤ (pos (min n limit))) ≡ kept_in least greatest (neg_ℤ (pos n))
 kept_held_below least greatest n limit small = kept_below_at least greatest n limit small (cases_lt n limit)
 
--- the opposite of a number that was held is kept as the opposite of the number
+-- the opposite of a number that was cut is kept as the opposite of the number
 pub opposite_kept : (least greatest : ℤ) (digits : Option ℕ) (z : ℤ) → unsigned_abs least < 2 ^ 127 - 1
     → Some z ≡ option_map (λ n. pos (min n (2 ^ 127 - 1))) digits
     → kept_in least greatest (neg_ℤ z) ≡ option_and_then (kept_in least greatest) (option_map (λ n. neg_ℤ (pos n)) digits)

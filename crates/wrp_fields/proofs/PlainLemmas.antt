@@ -1,4 +1,4 @@
--- A line is plain where the splitting of lines says so.
+-- A line is plain if and only if it can be split.
 use Rattle.std.proofs.Common.{◌≡◌, ◌↔◌, ◌&&◌, not, ℕ, List, [], ◌∷◌, Bool, true, false, refl, sym}
 use Rattle.std.specs.Prelude.{◌==◌, nat_lt, IsTrue}
 use Rattle.std.specs.List.{list_all, AllByRecursion}
@@ -31,17 +31,17 @@ pub line_passes : (line : List ℕ) → IsLine line → is_plain line ≡ true
 line_passes [] is = absurd (is.0 refl)
 line_passes (c ∷ cs) is = octets_pass (c ∷ cs) is.1
 
--- a line that passes the test is one that is split
+-- a line that passes the test can be split
 pub line_is : (line : List ℕ) → is_plain line ≡ true → IsLine line
 line_is [] is = cc is
 line_is (c ∷ cs) is = ((λ e. cc e), octets_are (c ∷ cs) is)
 
--- the two tests are one
+-- the two tests agree
 pub same_test : (line : List ℕ) (b : Bool) → (IsTrue b ↔ IsLine line) → b ≡ is_plain line
 same_test line true h = sym (line_passes line (h.0 refl))
 same_test line false h = sym (false_from_ne_true (is_plain line) (λ e. cc (h.1 (line_is line e))))
 
--- such a line begins with an octet below 128
+-- a plain line begins with an octet below 128
 pub starts_plain : (line : List ℕ) → IsLine line → StartsPlain line
 starts_plain [] is = tt
 starts_plain (c ∷ cs) is = is.1.0.3

@@ -23,7 +23,7 @@ feed_is (b ∷ rest) y e = elim (cases_Bool (b == 10)) [
   | inr other ↦ cc (rw other at e)
 ]
 
--- what a reader has left, and that it reads as these octets do
+-- what a reader has left, and that it reads it as it would read these octets
 abbrev Leaves : State → Option (List ℕ) → List ℕ → Type 0
 Leaves s left y = (xs : List ℕ) × (left ≡ Some xs) × (next_record default_config s [] [] xs ≡ next_record default_config st.StartRecord [] [] y)
 
@@ -44,7 +44,7 @@ goes rem a y e = elim (cases_Bool (has_failed a)) [
   | inr still ↦ still
 ]
 
--- the reader is ready for a read that gives what the machine gives
+-- the reader is ready for a read, which gives what the machine gives
 pub record Standing {R : Type 0} (rem : R → Option (List ℕ)) (a : Reader R) (y : List ℕ) : Type 0 where
   pub left : List ℕ
   pub source : source_of rem a ≡ Some left

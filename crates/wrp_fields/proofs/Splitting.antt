@@ -12,7 +12,7 @@ use Rattle.wrp_base.specs.Lines.{parts_of}
 use Rattle.wrp_fields.specs.Lines.{IsLine, IsPlainOctet}
 use Rattle.wrp_fields.specs.Block.{StartsPlain}
 
--- the first part with these octets before it
+-- the first part, with these octets before it
 abbrev onto : List ℕ → List (List ℕ) → List (List ℕ)
 onto field [] = field ∷ []
 onto field (part ∷ rest) = (field ++ part) ∷ rest
@@ -32,12 +32,12 @@ onto-more : (field : List ℕ) (x : ℕ) (ps : List (List ℕ)) → onto (field 
 onto-more field x [] = refl
 onto-more field x (p ∷ ps) = ap (λ (f : List ℕ). f ∷ ps) (append_assoc field (x ∷ []) p)
 
--- these octets end a field and its record, and leave a state and the rest
+-- these octets end a field and its record, and lead to a state and the rest
 abbrev EndsRecord : List ℕ → State → List ℕ → Type 0
 EndsRecord tail after rest = (fields : List (List ℕ)) (field : List ℕ)
     → next_record default_config st.InField fields field tail ≡ Some (fields ++ (field ∷ []), after, rest)
 
--- and do the same where a field starts
+-- and they do the same at the start of a field
 abbrev EndsEmpty : List ℕ → Type 0
 EndsEmpty tail = (fields : List (List ℕ))
     → next_record default_config st.StartField fields [] tail ≡ next_record default_config st.InField fields [] tail
@@ -98,12 +98,12 @@ pub first_line : (line rest : List ℕ) → IsLine line
     → next_record default_config st.StartRecord [] [] (line ++ 10 ∷ rest) ≡ Some (parts_of line, st.StartRecord, rest)
 first_line line rest is = ends_at line (10 ∷ rest) st.StartRecord rest (feed_ends rest) (feed_empty rest) is
 
--- and so is a line with a CR and its LF
+-- and the same for a line with a CR and its LF
 pub return_line : (line rest : List ℕ) → IsLine line
     → next_record default_config st.StartRecord [] [] (line ++ 13 ∷ 10 ∷ rest) ≡ Some (parts_of line, st.AfterCr, 10 ∷ rest)
 return_line line rest is = ends_at line (13 ∷ 10 ∷ rest) st.AfterCr (10 ∷ rest) (return_ends rest) (return_empty rest) is
 
--- and so is a line at the end of the text
+-- and the same for a line at the end of the text
 pub last_line : (line : List ℕ) → IsLine line
     → next_record default_config st.StartRecord [] [] line ≡ Some (parts_of line, st.StartRecord, [])
 last_line line is = rw (append-nil line) at (ends_at line [] st.StartRecord [] end_ends end_empty is)
@@ -113,7 +113,7 @@ pub no_line : next_record default_config st.StartRecord [] [] [] ≡ None
 unfolding next_record
 no_line = refl
 
--- octets below 128 begin with no mark that `csv` drops
+-- octets that begin below 128 do not begin with the mark that `csv` drops
 pub strip_plain : (xs : List ℕ) → StartsPlain xs → strip_bom xs ≡ xs
 unfolding strip_bom
 strip_plain [] plain = refl

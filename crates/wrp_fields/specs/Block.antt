@@ -12,13 +12,13 @@ abbrev pub StartsPlain : List ℕ → Type 0
 StartsPlain [] = Unit {0}
 StartsPlain (octet ∷ octets) = octet < 128
 
--- the octets behind an LF, where they begin with one
+-- the octets after an LF, if these octets begin with one
 abbrev pub after_feed : List ℕ → Option (List ℕ)
 after_feed [] = None
 after_feed (octet ∷ octets) = if octet == 10 then Some octets else None
 
--- the octets that a reader at the start of a line has left: an LF behind the CR that ended the last
--- line is none of them
+-- the octets that a reader at the start of a line has left: without an LF that follows the CR of the
+-- last line
 abbrev pub at_start : State → Option (List ℕ) → Option (List ℕ)
 at_start StartRecord left = left
 at_start AfterCr left = option_and_then after_feed left

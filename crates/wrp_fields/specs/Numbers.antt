@@ -3,7 +3,7 @@ use Rattle.std.specs.Prelude.{ℕ, ℤ, pos, neg_ℤ, ◌+◌, ◌-◌, ◌*◌,
 use Rattle.std.specs.List.{fold, list_all}
 use Rattle.std.specs.Char.{is_ascii_digit}
 
--- what decimal digits are worth: each is worth ten of the next
+-- the value of decimal digits: each is worth ten times the next
 abbrev pub value_of : List ℕ → ℕ
 value_of digits = fold (λ value digit. value * 10 + (digit - 48)) 0 digits
 
@@ -23,11 +23,11 @@ number_of (octet ∷ octets) =
     if octet == 45 then option_map (λ n. neg_ℤ (pos n)) (digits_of octets)
     else option_map pos (digits_of (octet ∷ octets))
 
--- the number, where it is from least to greatest
+-- the number, if it is from least to greatest
 abbrev pub kept_in : ℤ → ℤ → ℤ → Option ℤ
 kept_in least greatest z = if int_le least z && int_le z greatest then Some z else None
 
--- the number from least to greatest that a text writes
+-- the number that a text writes, if it is from least to greatest
 abbrev pub number_in : ℤ → ℤ → List ℕ → Option ℤ
 number_in least greatest text = option_and_then (kept_in least greatest) (number_of text)
 
@@ -36,10 +36,10 @@ abbrev pub natural_in : ℕ → ℕ → List ℕ → Option ℕ
 natural_in least greatest text =
     option_map unsigned_abs (number_in (pos least) (pos greatest) text)
 
--- a number from 0 on, where it is from least to greatest
+-- a number from 0 on, if it is from least to greatest
 abbrev pub held_in : ℕ → ℕ → ℕ → Option ℕ
 held_in least greatest n = if nat_le least n && nat_le n greatest then Some n else None
 
--- the number from least to greatest that digits alone write
+-- the number that digits without a sign write, if it is from least to greatest
 abbrev pub unsigned_in : ℕ → ℕ → List ℕ → Option ℕ
 unsigned_in least greatest text = option_and_then (held_in least greatest) (digits_of text)

@@ -1,4 +1,4 @@
-//! The lines of a block, one after the other.
+//! The lines of a block, one after another.
 ghost use Rattle.std.specs.Prelude.{◌≡◌, ◌∷◌, ◌++◌, [], ℕ, List, Option, IfOk, Some, false};
 ghost use Rattle.csv.specs.Reading.{source_of};
 ghost use Rattle.csv.specs.Records.{fields_of};
@@ -9,11 +9,11 @@ use csv::{ByteRecord, Reader, ReaderBuilder};
 use std::alloc::{AllocError, Global};
 use std::marker::Model;
 
-/// The lines of a block of octets, read one after the other. A clause sees the octets that are left,
+/// The lines of a block of octets, read one after another. A clause sees the octets that are left;
 /// None after a failed read.
 ///
-/// A read speaks of its own line alone: behind a plain line may stand anything. So the caller tests
-/// each line by `is_plain` before it is read, and stops at the first that is not plain.
+/// A read only depends on its own line: anything may follow a plain line. So the caller tests each
+/// line with `is_plain` before reading it, and stops at the first that is not plain.
 #[derive(Drop)]
 pub struct Block<'a> {
     reader: Reader<&'a [u8]>,
@@ -28,8 +28,8 @@ impl<'a> Model for Block<'a> {
 }
 
 impl<'a> Block<'a> {
-    /// The lines of these octets, the first of which, if any, is below 128: a byte order mark would
-    /// be dropped.
+    /// A reader of the lines of these octets. If there are octets, the first must be below 128,
+    /// because a byte order mark would be dropped.
     #[tactic(auto, using(crate::proofs::Splitting::strip_plain))]
     pub fn new(alloc: Global, octets: &'a [u8]) -> Block<'a>
         ensures { StartsPlain octets.now → result ≡ Some octets.now }
@@ -42,9 +42,10 @@ impl<'a> Block<'a> {
         }
     }
 
-    /// Puts the parts of the next line into `row`, and answers whether there was a line. The line
-    /// ends with LF, with CR and LF, or with the block. `AllocError` where there is no memory: then
-    /// nothing is known of `row` and of the octets that are left, so read no further.
+    /// Puts the parts of the next line into `row`, instead of what was there, and returns whether
+    /// there was a line. A line ends with LF, with CR and LF, or at the end of the block.
+    /// `AllocError` if there is not enough memory; then the contents of `row` and the octets that
+    /// are left are not specified, so read no further.
     pub fn next(&mut self, row: &mut ByteRecord) -> Result<bool, AllocError>
         ensures line { (line rest : List ℕ)
             → self.old ≡ Some (line ++ 10 ∷ rest) → IsLine line

@@ -1,6 +1,7 @@
-//! The fields of lines: the parts between a line's commas, as the kit's crate `csv` reads them, one line
-//! alone or a block of them, and numbers. The law on `csv` is stated for plain lines. It knows no network,
-//! and serves whoever reads lines. Plain lines and the numbers in them are this project's profile.
+//! The fields of lines, as the kit's crate `csv` reads them: the parts between the commas of one line, or
+//! of each line of a block, and numbers. The law about `csv` is stated for plain lines. This crate knows
+//! nothing of networks and can be used to read any lines. Plain lines and the numbers in them are this
+//! project's profile.
 #![tactic(auto)]
 
 mod block;

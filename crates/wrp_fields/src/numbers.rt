@@ -7,14 +7,15 @@ ghost use Rattle.wrp_fields.specs.Numbers.{value_of, are_digits, digits_of, numb
 // The most digits that a number may have.
 const MOST_DIGITS: usize = 39;
 
-// Each number of so many digits fits 64 bits.
+// A number with this many digits fits 64 bits.
 const FEW_DIGITS: usize = 19;
 
 // The greatest i128.
 const MOST_SIZE: u128 = (1 << 127) - 1;
 
-/// The number from `least` to `greatest` that a text writes: an optional `-`, then 1 to 39 digits.
-/// None where it is no number, or out of that range.
+/// The number that a text writes, if it is from `least` to `greatest`: an optional `-`, then 1 to 39 digits.
+/// Both limits are below `2^127 - 1` either way. None if the text is not such a number, or the number is out
+/// of that range.
 pub fn number(text: &[u8], least: i128, greatest: i128) -> Option<i128>
     requires least { unsigned_abs least < 2 ^ 127 - 1 }
     requires greatest { unsigned_abs greatest < 2 ^ 127 - 1 }
@@ -27,7 +28,7 @@ pub fn number(text: &[u8], least: i128, greatest: i128) -> Option<i128>
     }
 }
 
-// The number that `-` and some digits write, where it is from `least` to `greatest`.
+// The number that `-` and some digits write, if it is from `least` to `greatest`.
 #[tactic(auto, using(crate::proofs::HeldNumbers::opposite_kept))]
 fn below_zero(digits: &[u8], least: i128, greatest: i128) -> Option<i128>
     requires least { unsigned_abs least < 2 ^ 127 - 1 }
@@ -46,8 +47,9 @@ fn opposite(number: i128) -> i128
     -number
 }
 
-/// The number from `least` to `greatest` that a text writes, where both are from 0 on. `-0` is 0.
-/// None where it is no number, or out of that range.
+/// The number that a text writes, if it is from `least` to `greatest`, which are at least 0: an optional
+/// `-`, then 1 to 39 digits. `-0` is 0. None if the text is not such a number, or the number is out of that
+/// range.
 pub fn natural(text: &[u8], least: u64, greatest: u64) -> Option<u64>
     ensures value { result ≡ natural_in least greatest text.now }
     ensures range { IfSome result (λ n. (least ≤ n) × (n ≤ greatest)) }
@@ -58,8 +60,8 @@ pub fn natural(text: &[u8], least: u64, greatest: u64) -> Option<u64>
     }
 }
 
-/// The number from `least` to `greatest` that 1 to 39 digits write, without a sign. None where the text
-/// is none, or its number is out of that range. It is worked out in 64 bits.
+/// The number that 1 to 39 digits without a sign write, if it is from `least` to `greatest`. None if the
+/// text is not such a number, or the number is out of that range. It is computed in 64 bits.
 pub fn unsigned(text: &[u8], least: u64, greatest: u64) -> Option<u64>
     ensures value { result ≡ unsigned_in least greatest text.now }
     ensures range { IfSome result (λ n. (least ≤ n) × (n ≤ greatest)) }
@@ -73,7 +75,7 @@ pub fn unsigned(text: &[u8], least: u64, greatest: u64) -> Option<u64>
     }
 }
 
-// The number of at most 19 digits, read in one pass. None where there is no digit, or an octet that is none.
+// The number of at most 19 digits, read in one pass. None if there is no octet, or an octet is not a digit.
 fn few_digits(digits: &[u8]) -> Option<u64>
     requires { length digits.now ≤ 19 }
     ensures { result ≡ digits_of digits.now }
@@ -91,7 +93,7 @@ fn few_digits(digits: &[u8]) -> Option<u64>
     Some(value)
 }
 
-// The number, where it is from `least` to `greatest`.
+// The number, if it is from `least` to `greatest`.
 fn within(number: u64, least: u64, greatest: u64) -> Option<u64>
     ensures value { result ≡ held_in least greatest number }
     ensures range { IfSome result (λ n. (least ≤ n) × (n ≤ greatest)) }
@@ -103,7 +105,7 @@ fn within(number: u64, least: u64, greatest: u64) -> Option<u64>
     }
 }
 
-// The number, where it is from `least` to `greatest`.
+// The number, if it is from `least` to `greatest`.
 fn kept(number: i128, least: i128, greatest: i128) -> Option<i128>
     ensures value { result ≡ kept_in least greatest number }
     ensures range { IfSome result (λ z. (least ≤ℤ z) × (z ≤ℤ greatest)) }
@@ -115,7 +117,7 @@ fn kept(number: i128, least: i128, greatest: i128) -> Option<i128>
     }
 }
 
-// The number of 1 to 39 digits, held at the greatest i128.
+// The number of 1 to 39 digits, limited to the greatest i128.
 fn size(digits: &[u8]) -> Option<i128>
     ensures value { result ≡ option_map (λ n. pos (min n (2 ^ 127 - 1))) (digits_of digits.now) }
     ensures range { IfSome result (λ z. unsigned_abs z < 2 ^ 127) }
@@ -143,7 +145,7 @@ fn all_digits(octets: &[u8]) -> bool
     octets.iter().all(|octet| octet.is_ascii_digit())
 }
 
-// The value of some digits, held at the greatest u128. Most numbers are small, and 64 bits are faster.
+// The value of some digits, limited to the greatest u128. Most numbers are small, and 64 bits are faster.
 fn value(digits: &[u8]) -> u128
     ensures { result ≡ min (value_of digits.now) (2 ^ 128 - 1) }
 {
@@ -153,7 +155,7 @@ fn value(digits: &[u8]) -> u128
     }
 }
 
-// The value of some digits, where it fits 64 bits: most do.
+// The value of some digits, if it fits 64 bits; most do.
 fn short_value(digits: &[u8]) -> Option<u64>
     ensures { SomeIff result (value_of digits.now < 2 ^ 64) (value_of digits.now) }
 {
@@ -166,7 +168,7 @@ fn short_value(digits: &[u8]) -> Option<u64>
     Some(value)
 }
 
-// The value of some digits, held at the greatest u128.
+// The value of some digits, limited to the greatest u128.
 fn long_value(digits: &[u8]) -> u128
     ensures { result ≡ min (value_of digits.now) (2 ^ 128 - 1) }
 {

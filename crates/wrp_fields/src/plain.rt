@@ -1,4 +1,4 @@
-//! Plain lines: which they are, and their parts.
+//! Plain lines: what they are, and their parts.
 ghost use Rattle.std.specs.Prelude.{◌≡◌, ◌↔◌, IsTrue, OnOk, true};
 ghost use Rattle.csv.specs.Records.{fields_of};
 ghost use Rattle.wrp_base.specs.Lines.{parts_of};
@@ -9,8 +9,8 @@ use crate::Block;
 use csv::ByteRecord;
 use std::alloc::{AllocError, Global};
 
-/// Whether a line, without its LF and without the CR that belongs to its end, is one that `Block`
-/// splits: it has at least one octet, no quotation mark, CR or LF, and each octet is below 128.
+/// Whether `Block` can split a line, given without its LF and without a CR before it: the line has
+/// at least one octet, each octet is below 128, and none is a quotation mark, CR or LF.
 pub fn is_plain(line: &[u8]) -> bool
     ensures plain { IsTrue result ↔ IsLine line.now }
     ensures value { result ≡ is_plain line.now }
@@ -25,15 +25,15 @@ fn is_line(line: &[u8]) -> bool
     !line.is_empty() && line.iter().all(|octet| is_plain_octet(*octet))
 }
 
-// Whether an octet may stand in a plain line.
+// Whether a plain line may have this octet.
 fn is_plain_octet(octet: u8) -> bool
     ensures { IsTrue result ↔ IsPlainOctet octet }
 {
     octet != b'"' && octet != b'\r' && octet != b'\n' && octet < 128
 }
 
-/// Puts the parts of a plain line into `row`. `AllocError` where there is no memory: then nothing is
-/// known of `row`.
+/// Puts the parts of a plain line into `row`, instead of what was there. `AllocError` if there is
+/// not enough memory; then the contents of `row` are not specified.
 #[tactic(auto, using(crate::proofs::PlainLemmas::line_is, crate::proofs::PlainLemmas::starts_plain))]
 pub fn split(alloc: Global, line: &[u8], row: &mut ByteRecord) -> Result<(), AllocError>
     requires { is_plain line.now ≡ true }

@@ -1,4 +1,4 @@
--- The first port at which a frame waits that was put out now: the soonest of those at the ends of links is the first of all ports.
+-- The first port at which a waiting frame was put out now: the first among the ends of links is the first of all ports.
 use Rattle.std.proofs.Common.{◌≡◌, ◌∙◌, ◌⊎◌, inl, inr, refl, ap, ap₂, sym, subst, ℕ, zero, suc, ◌+◌, ◌<◌, ◌≤◌, nat_lt, Bool, true, false, cond, if◌then◌else◌, List, [], ◌∷◌, ◌++◌, find, flat_map, map, length, Option, None, Some, option_map, is_some, slice_get, arith}
 use Rattle.std.proofs.lemmas.Bool.{cases_lt, ltb-false, ltb-true, true≢false}
 use Rattle.std.proofs.lemmas.Option.{none-some, same_Some}
@@ -31,21 +31,21 @@ no_both b e f = true≢false (sym e ∙ f)
 
 -- Ends of links
 
--- a port at an end where it is so
+-- a port at an end at which the oldest waiting frame was put out now
 record AtEnd (s : Setting) (w : WorldAt) (port : ℕ × ℕ) : Type 0 where
   pub link : ℕ
   pub role : Role
   pub end_is : end_at s link role ≡ Some (end_with port.0 port.1)
   pub puts : puts_out_at w link role ≡ true
 
--- the foremost port of such ends
+-- the first such port among these ends
 abbrev Foremost : Setting → WorldAt → (ℕ → Role → Type 0) → Option (ℕ × ℕ) → Type 0
 Foremost s w D None = (k : ℕ) (r : Role) → D k r → puts_out_at w k r ≡ false
 Foremost s w D (Some port) =
     AtEnd s w port
     × ((k : ℕ) (r : Role) (n p : ℕ) → D k r → end_at s k r ≡ Some (end_with n p) → puts_out_at w k r ≡ true → rank port ≤ rank (n, p))
 
--- these ends, and one more
+-- these ends and one more
 abbrev More : (ℕ → Role → Type 0) → ℕ → Role → ℕ → Role → Type 0
 More D k r j q = D j q ⊎ ((j ≡ k) × (q ≡ r))
 
@@ -67,7 +67,7 @@ unchanged s w D k r (Some port) e h = (
   ],
 )
 
--- the port at the end that is one more
+-- the port at the added end
 rank_here : (s : Setting) (k j : ℕ) (r q : Role) (end : End) (n p : ℕ) → end_at s k r ≡ Some end → end_at s j q ≡ Some (end_with n p) → j ≡ k → q ≡ r →
     rank (n, p) ≡ rank (end.node, end.port)
 rank_here s k j r q end n p at there e f =
@@ -124,7 +124,7 @@ covered k j q h = elim (cases_lt j k) [
   | inr more ↦ one_more k j q (omega (arith, h, more))
 ]
 
--- it is the foremost of the ends of so many links
+-- it is the first among the ends of the first k links
 among : (s : Setting) (w : WorldAt) (k : ℕ) → k ≤ length s.cfg.links.items → Foremost s w (Below k) (first_among s w k)
 among s w zero h = λ j q below. absurd (omega (arith, below))
 among s w (suc k) h =
@@ -238,7 +238,7 @@ port_puts s w port accepted h =
     (end_of_place s port.0 port.1 at.0 at.1) h.end_is in
     ap (λ o. is_now w (oldest_of (waiting_at w o))) at.1 ∙ ap₂ (λ a b. puts_out_at w a b) same.0 same.1 ∙ h.puts
 
--- where a port of no end of a link is one, it is none of a node
+-- if the oldest frame at a port's end was not put out now, or the port is at no end, the same is true at the port
 port_silent : (s : Setting) (w : WorldAt) (n p : ℕ) (o : Option Place) → place_of s n p ≡ o →
     ((place : Place) → place_of s n p ≡ Some place → puts_out_at w place.link place.role ≡ false) → is_now w (oldest_of (waiting_at w o)) ≡ false
 port_silent s w n p None e h = refl
@@ -268,7 +268,7 @@ pub accepted_in : (s : Setting) (w : WorldAt) (plant : Plant) → FitsPlant plan
 accepted_in s w plant fits h =
     subst (λ (cfg : NetCfg). IsAccepted cfg s.db) h.cfg (subst (λ (db : Database). IsAccepted plant.net.cfg db) h.db fits.accepted)
 
--- the node of the first port is one of the network
+-- the node of the first port is a node of the network
 row_node_by : (b : Bool) (n first : ℕ) (rest : Option (ℕ × ℕ)) (port : ℕ × ℕ) → cond b (Some (n, first)) rest ≡ Some port → (rest ≡ Some port → port.0 ≡ n) → port.0 ≡ n
 row_node_by true n first rest port e h = ap (λ (x : ℕ × ℕ). x.0) (sym (same_Some (n, first) port e))
 row_node_by false n first rest port e h = h e

@@ -1,9 +1,9 @@
--- A frame that is found by its number is the one of that number.
+-- A frame that is found by its number has this number.
 use Rattle.std.proofs.Common.{◌≡◌, refl, subst, Option, None, Some}
 use Rattle.std.proofs.lemmas.Option.{none-some, same_Some}
 use Rattle.wrp_plant.specs.Plant.{MaybeIs}
 
--- what stands behind what was found
+-- the frame that was found, and what it stands for
 pub record Found {A B : Type 0} (R : A → B → Type 0) (a : Option A) (y : B) : Type 0 where
   pub one : A
   pub is : a ≡ Some one

@@ -1,4 +1,4 @@
--- What is told of a frame that is kept, and how many are, by the frames that the code has.
+-- What the code answers about kept frames, and how many it keeps, is true of the frames of the state.
 use Rattle.std.proofs.Common.{◌≡◌, ◌∙◌, refl, ap, ap₂, sym, subst, ◌||◌, ℕ, zero, suc, ◌+◌, ℤ, pos, ◌-ℤ◌, Bool, true, false, cond, if◌then◌else◌, List, [], ◌∷◌, length, Option, None, Some, option_map, option_and_then, count_by, arith, not}
 use Rattle.std.proofs.lemmas.Int.{ints}
 use Rattle.std.proofs.lemmas.List.Sums.{sum_by-cons}
@@ -30,7 +30,7 @@ kept_on_fibre s w i e = on_kept s w (w.frame i) e
 
 -- The frame of a number
 
--- a frame was put out a life ago at most where it was put out at the horizon or later
+-- a frame was put out at most a life ago if and only if it was put out at the horizon or later
 pub same_age : (now sent life h : ℤ) → h ≡ now -ℤ life → le_z (now -ℤ sent) life ≡ le_z h sent
 same_age now sent life h e = by_test (le_z (now -ℤ sent) life) (le_z h sent) refl refl where
   by_test : (a b : Bool) → le_z (now -ℤ sent) life ≡ a → le_z h sent ≡ b → a ≡ b
@@ -60,7 +60,7 @@ sender_told s w n d r h f =
     f ∙ ap₂ (λ k b. option_map pair (end_at s k b)) it.holds.link it.holds.by
     ∙ sym (ap (λ (o : Option FrameAt). option_map pair (option_and_then (λ g. end_at s g.link g.by) o)) it.is)
 
--- the end that a frame comes to
+-- the end at which a frame arrives
 abbrev way : ℕ → Role → Place
 way k by = record { link = k; role = other_of by }
 
@@ -107,7 +107,7 @@ count_told s w frames n h e =
     some_alike (kept_since frames.horizon (w.frame i)) (at i frames.kept) (h.each i) ∙ since_told frames.horizon (w.frame i)
     ∙ sym (kept_since_is s w frames.horizon (w.frame i) h.horizon))
 
--- A frame that is young
+-- A young frame
 
 not_false : (b : Bool) → not b ≡ false → b ≡ true
 not_false true e = refl
@@ -121,7 +121,7 @@ no_young : (on young : Bool) → (on || young) ≡ false → young ≡ true → 
 no_young true young e f = absurd (true≢false e)
 no_young false young e f = absurd (true≢false (sym f ∙ e))
 
--- it is kept
+-- a young frame of the state is kept
 pub not_kept : (s : Setting) (w : WorldAt) (n : ℕ) (frames : FramesAt) (f : FrameAt) → FramesAre s w frames → at n frames.kept ≡ None → w.frame n ≡ Some f →
     le_z frames.horizon f.sending.at ≡ true → ⊥
 not_kept s w n frames f h e k young =

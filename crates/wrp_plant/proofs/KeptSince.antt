@@ -1,4 +1,4 @@
--- The frames that are kept stand for those of the state that are on a fibre or young.
+-- The kept frames stand for the frames of the state that are on a fibre or young.
 use Rattle.std.proofs.Common.{◌≡◌, ◌∙◌, refl, ap, ap₂, sym, subst, ◌||◌, ℤ, Bool, true, false, if◌then◌else◌, Option, None, Some}
 use Rattle.std.proofs.lemmas.Bool.{true≢false}
 use Rattle.std.proofs.lemmas.Option.{none-some}
@@ -17,7 +17,7 @@ some_alike None (Some r) h = absurd h
 some_alike (Some a) None h = absurd h
 some_alike (Some a) (Some r) h = refl
 
--- it is on a fibre in the state where it is so in the code
+-- a frame is on a fibre in the state if it is on a fibre in the code
 pub on_alike : (f : FrameAt) (d : Departed) → DepartedIs f d → is_on_fibre (Some f) ≡ is_on d
 on_alike f d h =
     ap₂ (λ g a. if g then false else (if a then false else true)) (sym h.gone) (some_alike f.arrival d.arrival h.arrival)
@@ -39,13 +39,13 @@ since_is h (Some g) f e = by_test (is_kept_since h (Some g)) refl where
   by_test true k = sym (since_some h g k) ∙ e
   by_test false k = absurd (none-some f (sym (since_none h g k) ∙ e))
 
--- the frame of the state for which a frame that is kept stands
+-- the frame of the state that a kept frame stands for
 pub found_kept : (h : ℤ) (o : Option FrameAt) (q : Option Departed) (d : Departed) → MaybeIs DepartedIs (kept_since h o) q → q ≡ Some d → Found DepartedIs o d
 found_kept h o q d m e =
     let it : Found DepartedIs (kept_since h o) d = found DepartedIs (kept_since h o) q d m e in
     record { one = it.one; is = since_is h o it.one it.is; holds = it.holds }
 
--- the frame that is kept for a frame of the state
+-- the frame that the code keeps for a frame of the state
 pub record KeptFor (q : Option Departed) (f : FrameAt) : Type 0 where
   pub one : Departed
   pub is : q ≡ Some one
@@ -61,7 +61,7 @@ kept_for h f q m k = kept_one f q (subst (λ o. MaybeIs DepartedIs o q) (since_s
 pub on_since : (h : ℤ) (f : FrameAt) → is_on_fibre (Some f) ≡ true → is_kept_since h (Some f) ≡ true
 on_since h f e = ap (λ a. a || le_z h f.sending.at) e
 
--- none is kept: none was given, or it is kept no more
+-- if the code keeps none for a frame of the state, that frame is neither on a fibre nor young
 pub none_kept : (h : ℤ) (f : FrameAt) (q : Option Departed) → MaybeIs DepartedIs (kept_since h (Some f)) q → q ≡ None → is_kept_since h (Some f) ≡ false
 none_kept h f q m e = by_test (is_kept_since h (Some f)) refl where
   some_none : (d : Departed) → Some d ≡ None → ⊥

@@ -1,4 +1,4 @@
--- What the network has of a module.
+-- What the network says about a module.
 use Rattle.std.proofs.Common.{◌≡◌, ◌∙◌, refl, ap, ap₂, sym, ℕ, suc, ◌<◌, ◌==◌, ◌&&◌, Bool, true, false, cond, List, [], ◌∷◌, Option, None, Some, IfSome, option_map, option_and_then, slice_get, arith}
 use Rattle.std.specs.List.{find}
 use Rattle.wrp_base.specs.declared.link.Module.{Module}
@@ -30,7 +30,7 @@ pub then_holds : {A B : Type 0} (f : A → Option B) (P : B → Type 0) (o : Opt
 then_holds f P None h = tt
 then_holds f P (Some x) h = h
 
--- the transition tag of a listed module is one of the period's
+-- the transition tag of a listed module is within the period
 abbrev HasTag : Module → Type 0
 HasTag m = m.transition < steps_of_period
 
@@ -48,7 +48,7 @@ module_has db name tx rx h =
     (λ j entry f. let most = ((h.modules k m e).entries j entry f).transition in omega (arith, most)) in
     either_holds HasTag (entry_in tx rx m.entries) (entry_in 0 0 m.entries) (entry_has tx rx m.entries each) (entry_has 0 0 m.entries each)))
 
--- what the network has of it at an end of a link
+-- what the network says about it at an end of a link
 pub entry_told : (s : Setting) (k : ℕ) (r : Role) (name : List ℕ) (db : Database) (link : LinkCfg) (tx rx : ℕ) (o : Option Module) → o ≡ module_at db name tx rx →
     tx ≡ sends_nm r link → rx ≡ sends_nm (other_of r) link → db ≡ s.db → link_of s k ≡ Some link → o ≡ entry_at s k r name
 entry_told s k r name db link tx rx o e t x d l =

@@ -23,7 +23,7 @@ use Rattle.wrp_course.specs.WorldAt.{new_world, new_end, named_at}
 use Rattle.wrp_plant.proofs.EachLists.{at_place, each_none}
 use Rattle.std.specs.List.{AllZip}
 
--- what the code made of a network
+-- what the code makes of a network
 pub record IsNewPlant (s : Setting) (plant : Plant) : Type 0 where
   pub cfg : plant.net.cfg ≡ s.cfg
   pub db : plant.net.db ≡ s.db
@@ -46,7 +46,7 @@ end_is name entry end h = record {
   marks = h.marks;
 }
 
--- a link that stands at this place
+-- there is a link at this place
 place_at : (xs : List LinkCfg) (k : ℕ) → k < length xs → (link : LinkCfg) × (slice_get xs k ≡ Some link)
 place_at [] k h = absurd (omega arith)
 place_at (x ∷ xs) zero h = (x, refl)
@@ -87,7 +87,7 @@ new_plant s plant h = record {
   frames = subst (FramesAre s (new_world s)) (sym h.frames) (record { horizon = refl; count = refl; sent = none_sent; each = λ i. tt });
 }
 
--- and its numbers are in their ranges
+-- and its numbers are in range
 
 start_fits : (t : ℤ) → IsTimeBy 0 t → FitsClock 0 (new_clock t)
 start_fits t h = record { off = omega arith; ticked = h; samples = omega arith }

@@ -1,4 +1,4 @@
--- The frame that is due first among those that are kept is the next arrival of the state.
+-- The kept frame that is due first is the next arrival of the state.
 use Rattle.std.proofs.Common.{◌≡◌, ◌∙◌, refl, ap, sym, subst, ℕ, ◌≤◌, ◌⊎◌, ℤ, ◌<ℤ◌, true, false, Option, None, Some}
 use Rattle.std.proofs.lemmas.Bool.{false_from_ne_true, false≢true}
 use Rattle.wrp_flights.specs.declared.departed.Departed.{Departed}

@@ -1,4 +1,4 @@
--- The link above a node that stands at a place of its own: no other stands above it.
+-- The link above a node, if it is at the node's own place: no other link is above the node.
 use Rattle.std.proofs.Common.{◌≡◌, ◌∙◌, refl, sym, ℕ, ◌<◌, ◌==◌, true, false, List, length, Option, None, Some, slice_get, true≢false}
 use Rattle.std.proofs.lemmas.Bool.{eqb-true}
 use Rattle.std.specs.List.{position}
@@ -9,7 +9,7 @@ use Rattle.wrp_network.specs.declared.network.LinkCfg.{LinkCfg}
 use Rattle.wrp_network.specs.Network.{IsTree}
 use Rattle.wrp_plant.proofs.EachLists.{at_place}
 
--- a link stands at this place, and above this node
+-- there is a link at this place, and it is above this node
 pub record StandsAt (n k : ℕ) (links : List LinkCfg) : Type 0 where
   pub link : LinkCfg
   pub there : slice_get links k ≡ Some link

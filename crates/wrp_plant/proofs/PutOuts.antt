@@ -1,4 +1,4 @@
--- Frames that wait at the ends of links and were put out now: by the numbers of the links, and by the ports of the nodes.
+-- Frames that wait at the ends of links and were put out now: by link number, and by port of each node.
 use Rattle.std.proofs.Common.{◌≡◌, ◌∙◌, refl, ap, sym, ◌||◌, ℕ, zero, suc, ◌+◌, ◌-◌, ◌<◌, ◌≤◌, Bool, true, false, length, Option, None, Some, arith}
 use Rattle.std.proofs.lemmas.Option.{slice_get_within}
 use Rattle.std.specs.List.{list_any}
@@ -12,7 +12,7 @@ use Rattle.wrp_course.specs.WorldAt.{WorldAt}
 use Rattle.wrp_plant.specs.PutOut.{NoneIsPutOut, is_now, puts_out, puts_out_at}
 use Rattle.wrp_course.proofs.RunNetwork.{LinkEnd, end_with, place_end}
 
--- Numbers one after another
+-- Consecutive numbers
 
 pub any_more : (p : ℕ → Bool) (count i : ℕ) → i < count →
     list_any p (from_on (count - i) i) ≡ (p i || list_any p (from_on (count - (i + 1)) (i + 1)))
@@ -34,7 +34,7 @@ right_false false b e = e
 right_false true false e = refl
 right_false true true e = e
 
--- where none of them passes, each of them fails
+-- if none of them passes, each of them fails
 none_passes : (p : ℕ → Bool) (count first i : ℕ) → list_any p (from_on count first) ≡ false → i < count → p (first + i) ≡ false
 none_passes p zero first i e h = absurd (omega (arith, h))
 none_passes p (suc count) first zero e h =
@@ -64,6 +64,6 @@ place_within s n p place e =
     let end : LinkEnd s place.link place.role (end_with n p) = place_end s n p place e in
     slice_get_within s.cfg.links.items place.link end.link end.there
 
--- where it is so at no end of a link, it is so at no port
+-- if it is true at no end of a link, it is true at no port
 pub none_put_out : (s : Setting) (w : WorldAt) → puts_out s w ≡ false → NoneIsPutOut s w
 none_put_out s w e n p = port_waits s w (place_of s n p) e (λ place at. place_within s n p place at)

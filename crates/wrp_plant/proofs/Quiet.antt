@@ -1,4 +1,4 @@
--- Where the last frame was not put out now, no frame that waits was.
+-- If the last frame was not put out now, no waiting frame was put out now.
 use Rattle.std.proofs.Common.{◌≡◌, ◌∙◌, refl, ap, sym, subst, ◌||◌, ℕ, zero, suc, ◌+◌, ◌<◌, ℤ, ◌≤ℤ◌, Bool, true, false, List, [], ◌∷◌, length, Some, slice_get, arith}
 use Rattle.std.proofs.lemmas.Bool.Decides.{Decides-int_eq}
 use Rattle.std.proofs.lemmas.Int.{ints}
@@ -17,7 +17,7 @@ use Rattle.wrp_plant.specs.EndRoom.{PutBy, SpanPutBy}
 use Rattle.wrp_plant.specs.Plant.{EndIs, FitsPlant, PlantIs, PutOutIs, SpanIs}
 use Rattle.wrp_plant.specs.PutOut.{is_now, puts_out, puts_out_at}
 
--- what is no later than a moment that is before now is not now
+-- what is not after a time before now is not now
 same_time : (last time at : ℤ) → at ≡ time → at ≤ℤ last → last ≤ℤ time → last ≡ time
 same_time last time at e h k = omega (arith, ints, e, h, k)
 

@@ -1,4 +1,4 @@
--- A signed number of the code is read as it is.
+-- A signed number of the code is read unchanged.
 use Rattle.std.proofs.Common.{◌≡◌, ℤ, ◌≤◌, ◌^◌, unsigned_abs, to_z, of_z, FitsSigned, arith}
 use Rattle.std.proofs.lemmas.Int.{ints, to_z-of_z}
 use Rattle.std.specs.Int.{w128}

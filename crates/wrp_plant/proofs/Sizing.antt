@@ -1,4 +1,4 @@
--- The sizes of the numbers of a world after so many events.
+-- How large the numbers of a world are after a number of events.
 use Rattle.std.proofs.Common.{ℕ, ℤ, ◌<◌, ◌^◌, arith, ◌≤ℤ◌}
 use Rattle.wrp_plant.specs.Sizes.{IsTime, IsOff, IsDelay, IsTimeBy, IsOffBy, IsDelayBy, IsDueBy}
 use Rattle.std.proofs.lemmas.Int.{ints}
@@ -18,7 +18,7 @@ delay_size events d h k = omega arith
 pub due_size : (events : ℕ) (t : ℤ) → events < 2 ^ 32 → IsDueBy events t → IsTime t
 due_size events t h k = omega arith
 
--- a raw stamp of an event is in the ranges of a node
+-- the raw stamp of an event is in the range that a node takes
 pub raw_fits : (raw : Raw) → IsRaw raw → FitsRaw raw
 raw_fits raw h = record {
   rising_least = omega (arith, h.rising.0);

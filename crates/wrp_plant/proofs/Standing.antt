@@ -1,4 +1,4 @@
--- The parts of a plant are those of the state that the plant stands for.
+-- The parts of a plant are the parts of the state that it stands for.
 use Rattle.std.proofs.Common.{◌≡◌, ◌∙◌, refl, ap, ap₂, sym, subst, ℕ, ℤ, pos, ◌+ℤ◌, ◌&&◌, Bool, true, false, if◌then◌else◌, Option, None, Some}
 use Rattle.wrp_network.specs.declared.network.LinkCfg.{LinkCfg}
 use Rattle.wrp_base.specs.declared.link.Role.{Role}
@@ -21,7 +21,7 @@ pub up_told : (clock : ℕ → ClockState) (o : Option LinkCfg) (link : LinkCfg)
     a ≡ (clock link.upper).up → b ≡ (clock link.lower).up → (a && b) ≡ ends_are_up clock o
 up_told clock o link a b e f g = ap₂ (λ x y. x && y) f g ∙ sym (ap (ends_are_up clock) e)
 
--- the end of a role
+-- the end with this role
 pub end_told : (w : WorldAt) (k : ℕ) (span : Span) (role : Role) → SpanIs w k span → EndIs (w.end_at k role) (end_in span role)
 end_told w k span Master h = h.master
 end_told w k span Slave h = h.slave

@@ -1,4 +1,4 @@
--- All of a world but its nodes before any event: its clocks, and the ends of its links (this project's profile).
+-- A world without its nodes, before any event: its clocks, and the ends of its links (this project's profile).
 use Rattle.std.specs.Prelude.{◌≡◌, ℕ, ℤ, pos, false, List, [], Option, Some, slice_get}
 use Rattle.std.specs.Option.{option_map_or}
 use Rattle.wrp_base.specs.declared.link.Module.{Module}
@@ -12,7 +12,7 @@ use Rattle.wrp_plant.specs.declared.ends.Span.{Span}
 abbrev pub new_clock : ℤ → ClockState
 new_clock start = record { up = false; off = pos 0; ticked = start; samples = 0 }
 
--- an end before any event, with this module in place
+-- an end before any event, with this module installed
 pub record IsNewEnd (name : List ℕ) (entry : Option Module) (end : EndState) : Type 0 where
   pub name_is : end.name.bytes ≡ name
   pub tx : end.tx ≡ option_map_or (λ m. m.tx) entry 0

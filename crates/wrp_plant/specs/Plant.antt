@@ -1,4 +1,4 @@
--- All of a world but its nodes, as the code keeps it, and the state that it stands for (this project's profile).
+-- A world without its nodes, as the code keeps it, and the state that it stands for (this project's profile).
 use Rattle.std.specs.Prelude.{◌≡◌, ◌<◌, ◌≤◌, ◌≤ℤ◌, ◌^◌, ◌||◌, ◌+ℤ◌, ◌-ℤ◌, ℕ, ℤ, pos, Bool, false, if◌then◌else◌, List, length, reverse, Option, None, Some, IfSome, option_map, slice_get}
 use Rattle.std.specs.Int.Signed.{le_z}
 use Rattle.std.specs.List.{AllZip}
@@ -29,13 +29,13 @@ use Rattle.wrp_base.specs.Link.{other_of}
 
 -- Lists that stand for functions of numbers
 
--- each place of the list, from 0 on, and what stands there
+-- P holds of each element of the list and its place, counted from 0
 abbrev pub Each : {A : Type 0} → (ℕ → A → Type 0) → List A → Type 0
 Each {A} P xs = (n : ℕ) (x : A) → slice_get xs n ≡ Some x → P n x
 
--- What each part stands for
+-- What each part of the code stands for
 
--- a frame that a port put out: its octets say its message
+-- a frame that a port put out: its octets spell its message
 pub record PutOutIs (sending : Sending) (out : PutOut) : Type 0 where
   pub octets : out.octets.items ≡ octets_of sending.message
   pub says : Spells out.octets.items sending.message
@@ -48,23 +48,23 @@ pub record EndIs (at : EndAt) (end : EndState) : Type 0 where
   pub waiting : AllZip PutOutIs at.waiting end.waiting.items
   pub marks : end.marks.items ≡ reverse at.marks
 
--- the end of a link of this role
+-- the end of a link with this role
 abbrev pub end_in : Span → Role → EndState
 end_in span Master = span.master
 end_in span Slave = span.slave
 
--- the true one-way delays down and up: both ports' and the fibre's
+-- the true one-way delays down and up, in tau: the fibre's and both ports'
 abbrev pub down_in : Span → ℤ
 down_in span = (pos span.master.tx +ℤ span.fibre.ms) +ℤ pos span.slave.rx
 
 abbrev pub up_in : Span → ℤ
 up_in span = (pos span.slave.tx +ℤ span.fibre.sm) +ℤ pos span.master.rx
 
--- the true delays of the module in place at an end
+-- the true delays of the module installed at an end, in tau
 abbrev pub delays_in : EndState → Delays
 delays_in end = record { tx = end.tx; rx = end.rx }
 
--- a fibre whose delays moved
+-- a fibre after its delays changed
 abbrev pub moved_fibre : List (ℤ × ℤ) → ℕ → FibreState → FibreState
 moved_fibre moves k fibre =
     record fibre { ms = fibre.ms +ℤ (move_of moves k).0; sm = fibre.sm +ℤ (move_of moves k).1 }
@@ -94,11 +94,11 @@ pub record DepartedIs (f : FrameAt) (d : Departed) : Type 0 where
   pub arrival : MaybeIs ReceptionIs f.arrival d.arrival
   pub gone : d.gone ≡ f.gone
 
--- the end that a frame comes to
+-- the end at which a frame arrives
 abbrev pub end_to : FrameAt → Place
 end_to f = record { link = f.link; role = other_of f.by }
 
--- a frame of the state that is on a fibre, or was put out at this time or later
+-- a frame of the state is on a fibre, or was put out at this time or later
 abbrev pub is_kept_since : (horizon : ℤ) → Option FrameAt → Bool
 is_kept_since horizon None = false
 is_kept_since horizon (Some f) = is_on_fibre (Some f) || le_z horizon f.sending.at
@@ -106,15 +106,15 @@ is_kept_since horizon (Some f) = is_on_fibre (Some f) || le_z horizon f.sending.
 abbrev pub kept_since : (horizon : ℤ) → Option FrameAt → Option FrameAt
 kept_since horizon o = if is_kept_since horizon o then o else None
 
--- of all frames of the state it is known when they were put out, and those are kept that are on a fibre or were put out
--- a life ago at most
+-- the code knows when each frame of the state was put out; it keeps the frames that are on a fibre, or were put out at
+-- most a frame's life ago
 pub record FramesAre (s : Setting) (w : WorldAt) (frames : FramesAt) : Type 0 where
   pub horizon : frames.horizon ≡ w.time -ℤ pos (frame_life s.cfg)
   pub count : length frames.sent ≡ w.departed
   pub sent : (i : ℕ) → sent_at i frames.sent ≡ option_map (λ f. f.sending.at) (w.frame i)
   pub each : (i : ℕ) → MaybeIs DepartedIs (kept_since frames.horizon (w.frame i)) (at i frames.kept)
 
--- all of a world but its nodes stands for this state of a world with this setting
+-- the plant stands for this state of a world with this setting
 pub record PlantIs (s : Setting) (w : WorldAt) (plant : Plant) : Type 0 where
   pub cfg : plant.net.cfg ≡ s.cfg
   pub db : plant.net.db ≡ s.db
@@ -126,7 +126,7 @@ pub record PlantIs (s : Setting) (w : WorldAt) (plant : Plant) : Type 0 where
 
 -- What a plant keeps
 
--- an end of a link: when its waiting frames were put out
+-- an end of a link: the times at which its waiting frames were put out are in range
 pub record FitsEnd (events : ℕ) (end : EndState) : Type 0 where
   pub waiting : Each (λ i out. IsTimeBy events out.at) end.waiting.items
 
@@ -153,8 +153,8 @@ pub record FitsFrames (links events : ℕ) (frames : FramesAt) : Type 0 where
   pub sent : (i : ℕ) (t : ℤ) → sent_at i frames.sent ≡ Some t → IsTimeBy events t
   pub each : (i : ℕ) (d : Departed) → at i frames.kept ≡ Some d → FitsDeparted links events d
 
--- an accepted network, a clock for each node, a state for each link, numbers in their ranges, places at each end for the
--- steps that are spare, and no frame that waits and was put out later than the last
+-- an accepted network, a clock for each node, a state for each link, numbers in their ranges, room at each end for the
+-- spare steps, and no waiting frame that was put out after the last put time
 pub record FitsPlant (plant : Plant) : Type 0 where
   pub accepted : IsAccepted plant.net.cfg plant.net.db
   pub clock_count : length plant.clocks.items ≡ length plant.net.cfg.nodes.items

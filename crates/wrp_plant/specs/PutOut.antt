@@ -9,7 +9,7 @@ use Rattle.wrp_course.specs.Setting.{Setting, from_on, links_of, nodes_of}
 use Rattle.wrp_course.specs.Views.{oldest_of, waiting_of}
 use Rattle.wrp_course.specs.WorldAt.{WorldAt}
 
--- there is a moment, and it is now
+-- there is a time, and it is now
 abbrev pub is_now : WorldAt → Option ℤ → Bool
 is_now w at = option_map_or (λ t. int_eq t w.time) at false
 
@@ -17,18 +17,18 @@ is_now w at = option_map_or (λ t. int_eq t w.time) at false
 abbrev pub puts_out_at : WorldAt → ℕ → Role → Bool
 puts_out_at w k r = is_now w (oldest_of (w.end_at k r).waiting)
 
--- so it is at an end of some link
+-- this is true at an end of some link
 abbrev pub puts_out : Setting → WorldAt → Bool
 puts_out s w = list_any (λ k. puts_out_at w k Master || puts_out_at w k Slave) (links_of s)
 
--- so it is at no port of any node
+-- this is true at no port of any node
 abbrev pub NoneIsPutOut : Setting → WorldAt → Type 0
 NoneIsPutOut s w = (n p : ℕ) → is_now w (waiting_of s w n p) ≡ false
 
--- ports by nodes in file order, then ascending: they have the numbers 1 to 18
+-- the ports by node in file order, then by number: the numbers are 1 to 18
 abbrev pub ports_in_order : Setting → List (ℕ × ℕ)
 ports_in_order s = flat_map (λ n. map (λ p. (n, p)) (from_on 18 1)) (nodes_of s)
 
--- the first of them at which the oldest frame that waits was put out now
+-- the first port at which the oldest waiting frame was put out now
 abbrev pub first_put_out : Setting → WorldAt → Option (ℕ × ℕ)
 first_put_out s w = find (λ port. is_now w (waiting_of s w port.0 port.1)) (ports_in_order s)

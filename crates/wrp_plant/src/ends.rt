@@ -9,31 +9,31 @@ use wrp_base::{Frame, Mark, Role, Tau, sum};
 use wrp_course::FibreState;
 use wrp_network::Name;
 
-/// A frame that a port put out, and that has not departed.
+/// A frame that a port put out and that has not departed yet.
 #[derive(Debug, Drop)]
 pub struct PutOut {
     /// Its octets, from the PTP header on.
     pub octets: Frame,
-    /// The true time at which it was put out.
+    /// The true time at which it was put out, in tau.
     pub at: Tau,
 }
 
-/// An end of a link at a moment: a port, and the module in place there.
+/// One end of a link at some moment: a port, and the module installed there.
 #[derive(Debug, Drop)]
 pub struct EndState {
-    /// The name of the module.
+    /// The module's name.
     pub name: Name,
     /// Its true transmission delay, in tau.
     pub tx: u64,
     /// Its true reception delay, in tau.
     pub rx: u64,
-    /// The frames that the port put out and that have not departed, the oldest first.
+    /// The frames that the port put out and that have not departed yet, oldest first.
     pub waiting: Vec<PutOut>,
-    /// The history of the port's link, the oldest mark first.
+    /// The history of the port's link, oldest mark first.
     pub marks: Vec<Mark>,
 }
 
-/// A link at a moment.
+/// A link at some moment.
 #[derive(Debug, Drop)]
 pub struct Span {
     /// Its fibre.
@@ -44,17 +44,17 @@ pub struct Span {
     pub slave: EndState,
 }
 
-/// The true delays of the module in place at an end of a link, in tau.
+/// The true delays of the module installed at an end of a link, in tau.
 #[derive(Clone, Copy)]
 pub struct Delays {
-    /// That of what it sends.
+    /// For what it sends.
     pub tx: u64,
-    /// That of what it receives.
+    /// For what it receives.
     pub rx: u64,
 }
 
 impl EndState {
-    /// The true delays of the module in place.
+    /// The true delays of the installed module, in tau.
     pub fn delays(&self) -> Delays
         ensures { result ≡ delays_in self.now }
     {
@@ -64,7 +64,8 @@ impl EndState {
         }
     }
 
-    /// The true time at which the oldest frame that waits was put out.
+    /// The true time at which the oldest waiting frame was put out, in tau. `None` if no frame
+    /// waits.
     pub fn oldest(&self) -> Option<Tau>
         ensures { (at : EndAt) → EndIs at self.now → result ≡ oldest_of at.waiting }
     {
@@ -86,7 +87,7 @@ impl Span {
         }
     }
 
-    /// The true one-way delay down: both ports' own and the fibre's.
+    /// The true one-way delay down, in tau: the fibre's and both ports'.
     pub fn down(&self) -> Tau
         requires { IsDelay self.now.fibre.ms }
         ensures value { result ≡ down_in self.now }
@@ -96,7 +97,7 @@ impl Span {
         with_ports(self.master.tx, self.fibre.ms, self.slave.rx)
     }
 
-    /// The true one-way delay up.
+    /// The true one-way delay up, in tau: the fibre's and both ports'.
     pub fn up(&self) -> Tau
         requires { IsDelay self.now.fibre.sm }
         ensures value { result ≡ up_in self.now }
@@ -107,7 +108,7 @@ impl Span {
     }
 }
 
-/// The delay of a fibre with those of the port that sends and the port that receives.
+/// The delay of a fibre plus the delays of the sending and the receiving port, in tau.
 pub fn with_ports(tx: u64, delay: Tau, rx: u64) -> Tau
     requires { IsDelay delay }
     ensures value { result ≡ (pos tx +ℤ delay) +ℤ pos rx }

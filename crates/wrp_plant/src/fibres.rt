@@ -1,4 +1,4 @@
-//! A fibre whose delays move, and by how much an event moves them.
+//! A fibre whose delays change, and by how much an event changes them.
 ghost use Rattle.std.specs.Prelude.{◌≡◌, ◌≤◌, ◌+ℤ◌, ◌^◌, unsigned_abs};
 ghost use Rattle.wrp_course.specs.Moved.{move_of};
 ghost use Rattle.wrp_plant.specs.Plant.{moved_fibre};
@@ -7,7 +7,7 @@ ghost use Rattle.wrp_plant.specs.Sizes.{IsDelay};
 use wrp_base::sum;
 use wrp_course::FibreState;
 
-/// How far the delay of a fibre moves down.
+/// By how much the fibre's delay down changes, in tau.
 pub fn down_at(moves: &[(i64, i64)], k: usize) -> i64
     ensures value { result ≡ (move_of moves.now k).0 }
     ensures size { unsigned_abs result ≤ 2 ^ 63 }
@@ -18,7 +18,7 @@ pub fn down_at(moves: &[(i64, i64)], k: usize) -> i64
     }
 }
 
-/// How far it moves up.
+/// By how much the fibre's delay up changes, in tau.
 pub fn up_at(moves: &[(i64, i64)], k: usize) -> i64
     ensures value { result ≡ (move_of moves.now k).1 }
     ensures size { unsigned_abs result ≤ 2 ^ 63 }
@@ -29,7 +29,7 @@ pub fn up_at(moves: &[(i64, i64)], k: usize) -> i64
     }
 }
 
-/// The delays of a fibre move, down and up.
+/// Changes the delays of a fibre, down and up.
 pub fn move_by(fibre: &mut FibreState, down: i64, up: i64)
     requires ms { IsDelay fibre.old.ms }
     requires sm { IsDelay fibre.old.sm }
@@ -39,7 +39,7 @@ pub fn move_by(fibre: &mut FibreState, down: i64, up: i64)
     fibre.sm = sum(fibre.sm, i128::from(up));
 }
 
-/// A fibre whose delays moved by its own of the moves.
+/// The fibre of link k after these moves.
 pub fn moved(fibre: &FibreState, moves: &[(i64, i64)], k: u8) -> FibreState
     requires ms { unsigned_abs fibre.now.ms ≤ 2 ^ 98 }
     requires sm { unsigned_abs fibre.now.sm ≤ 2 ^ 98 }

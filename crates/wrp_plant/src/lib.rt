@@ -1,5 +1,5 @@
-//! All of a world but its nodes, as the code keeps it: true time, clocks, fibres, ends of links and frames in
-//! flight, and what is asked of them (this project's profile).
+//! A world without its nodes, as the code keeps it: true time, clocks, fibres, ends of links and frames in
+//! flight, with the questions that the code asks about them (this project's profile).
 #![tactic(auto)]
 
 mod ends;

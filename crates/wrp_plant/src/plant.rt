@@ -1,4 +1,4 @@
-//! All of a world but its nodes: true time, clocks, fibres, ends of links and frames in flight.
+//! A world without its nodes: true time, clocks, fibres, ends of links and frames in flight.
 mod carriers;
 mod clocks;
 mod links;
@@ -14,23 +14,23 @@ use wrp_config::Network;
 use wrp_course::ClockState;
 use wrp_flights::Frames;
 
-/// All of a world but its nodes.
+/// A world without its nodes.
 #[derive(Debug, Drop)]
 pub struct Plant {
     /// The network.
     pub net: Network,
-    /// True time.
+    /// True time, in tau.
     pub time: Tau,
-    /// The events so far.
+    /// How many events have come so far.
     pub events: u32,
     /// The clock of each node, in file order.
     pub clocks: Vec<ClockState>,
-    /// Each link, in file order.
+    /// The state of each link, in file order.
     pub spans: Vec<Span>,
     /// The frames that departed.
     pub frames: Frames,
-    /// For so many steps of nodes each end of each link has places.
+    /// How many more steps of nodes each end of each link has room for.
     pub spare: u8,
-    /// No frame that waits was put out later.
+    /// No waiting frame was put out later than this, in tau.
     pub last_put: Tau,
 }

@@ -1,10 +1,10 @@
-//! The module that an event puts in place at a port.
+//! The module that an event installs at a port.
 ghost use Rattle.std.specs.Prelude.{◌≡◌, option_map};
 ghost use Rattle.wrp_course.specs.Moved.{swap_at};
 
 use wrp_course::Swap;
 
-/// The module that is put in place at a port, if one is.
+/// The swap for this port: the first one that names it. `None` if no swap names the port.
 pub fn swap_for(swaps: &[Swap], port: u16) -> Option<&Swap>
     ensures { option_map (λ swap. swap.now) result ≡ swap_at port swaps.now }
 {

@@ -18,7 +18,7 @@ fn tau_of_ns(ns: i64) -> Tau
     (TAU_OF_NS * u128::from(ns.unsigned_abs())) as i128
 }
 
-/// The shortest time from one tick of a node to the next.
+/// The shortest time from one tick of a node to the next, in tau.
 pub fn shortest_tick(cfg: &NetCfg) -> Tau
     requires { HasRanges cfg.now }
     ensures value { result ≡ pos (times.shortest_tick cfg.now) }
@@ -27,7 +27,7 @@ pub fn shortest_tick(cfg: &NetCfg) -> Tau
     tau_of_ns(cfg.dmin_ns)
 }
 
-/// The longest time from one tick of a node to the next.
+/// The longest time from one tick of a node to the next, in tau.
 pub fn longest_tick(cfg: &NetCfg) -> Tau
     requires { HasRanges cfg.now }
     ensures value { result ≡ pos (times.longest_tick cfg.now) }
@@ -36,7 +36,7 @@ pub fn longest_tick(cfg: &NetCfg) -> Tau
     tau_of_ns(cfg.dmax_ns)
 }
 
-/// The life of a frame.
+/// The life of a frame, in tau.
 pub fn frame_life(cfg: &NetCfg) -> Tau
     requires { HasRanges cfg.now }
     ensures value { result ≡ pos (times.frame_life cfg.now) }
@@ -45,7 +45,7 @@ pub fn frame_life(cfg: &NetCfg) -> Tau
     tau_of_ns(cfg.life_ns)
 }
 
-/// The greatest one-way delay.
+/// The greatest one-way delay, in tau.
 pub fn reach(cfg: &NetCfg) -> Tau
     requires { HasRanges cfg.now }
     ensures value { result ≡ pos (times.reach cfg.now) }

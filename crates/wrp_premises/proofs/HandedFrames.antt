@@ -1,4 +1,4 @@
--- What is told of a frame that is handed over.
+-- The checks of a frame that is handed over.
 use Rattle.std.proofs.Common.{◌≡◌, ◌∙◌, refl, ap, sym, subst, if◌then◌else◌, ℕ, ℤ, pos, ◌-ℤ◌, Bool, true, false, [], ◌∷◌, Option, None, Some, option_map}
 use Rattle.std.specs.Int.Signed.{le_z}
 use Rattle.std.specs.Option.{option_or, is_some}
@@ -50,7 +50,7 @@ pub waiting_told : (s : Setting) (w : WorldAt) (n : ℕ) (f : FrameAt) (d : Depa
     b ≡ told_of (not_sent n w.departed ∷ []) → b ≡ told_of (deliver_by s w n f f.arrival)
 waiting_told s w n f d b h i e g = waiting_by s w n f f.arrival d.arrival b h.arrival i e g
 
--- a check of which nothing is told holds
+-- a check that is not reported holds
 holds_by : (c : Check) (b : Bool) → c.fails ≡ b → option_map breach_of (if b then Some c else None) ≡ None → b ≡ false
 holds_by c true e t = absurd (none-some (breach_of c) (sym t))
 holds_by c false e t = refl
@@ -58,7 +58,7 @@ holds_by c false e t = refl
 pub holds_told : (c : Check) → told_of (c ∷ []) ≡ None → c.fails ≡ false
 holds_told c t = holds_by c c.fails refl t
 
--- it is kept
+-- a frame that is not too old is kept
 young_since : (s : Setting) (w : WorldAt) (h : ℤ) (f : FrameAt) → h ≡ w.time -ℤ pos (frame_life s.cfg) → told_of (too_old s.cfg w.time f.sending ∷ []) ≡ None → le_z h f.sending.at ≡ true
 young_since s w h f e told = young_since_holds s w h f e (holds_told (too_old s.cfg w.time f.sending) told)
 
@@ -72,7 +72,7 @@ pub young_missing : (s : Setting) (w : WorldAt) (n : ℕ) (frames : FramesAt) (f
 young_missing s w n frames f h e k told =
     not_kept s w n frames f h e k (young_since s w frames.horizon f h.horizon told)
 
--- By the time at which it was put out
+-- By the time at which the frame was put out
 
 sent_of : (o : Option FrameAt) (t : ℤ) → Some t ≡ option_map (λ f. f.sending.at) o → (f : FrameAt) × (o ≡ Some f) × (t ≡ f.sending.at)
 sent_of None t e = absurd (none-some t (sym e))

@@ -1,4 +1,4 @@
--- What is told of the delays of a joined link.
+-- The checks of the delays of a joined link.
 use Rattle.std.proofs.Common.{◌≡◌, ◌∙◌, ap₂, ℤ, pos, ◌^◌, ◌*◌, true, false, not, List, [], ◌∷◌, Option, arith}
 use Rattle.std.proofs.lemmas.Int.{ints}
 use Rattle.std.specs.Int.Signed.{le_z, lt_z}
@@ -52,7 +52,7 @@ after_sm most fibre down up link h k =
     holds_first (at_least 5 fibre.sm (pos 0)) (down_checks most fibre down up link) (not_low fibre.sm (pos 0) k)
     ∙ after_ms most fibre down up link h
 
--- the way down is too long
+-- the delay down is too long
 pub down_long : (most : ℤ) (fibre : FibreState) (down up : ℤ) (link : LinkCfg) (r : Option Breach) →
     lt_z fibre.ms (pos 0) ≡ false → lt_z fibre.sm (pos 0) ≡ false → lt_z most down ≡ true →
     r ≡ told_of (at_most 5 down most ∷ []) → r ≡ told_of (fibre_by most fibre down up link)
@@ -67,7 +67,7 @@ after_down most fibre down up link h k l =
     holds_first (at_most 5 down most) (up_checks most fibre up link) (not_low most down l)
     ∙ after_sm most fibre down up link h k
 
--- the way up is too long
+-- the delay up is too long
 pub up_long : (most : ℤ) (fibre : FibreState) (down up : ℤ) (link : LinkCfg) (r : Option Breach) →
     lt_z fibre.ms (pos 0) ≡ false → lt_z fibre.sm (pos 0) ≡ false → lt_z most down ≡ false →
     lt_z most up ≡ true → r ≡ told_of (at_most 5 up most ∷ []) → r ≡ told_of (fibre_by most fibre down up link)
@@ -75,7 +75,7 @@ up_long most fibre down up link r h k l m e =
     e ∙ fails_first (at_most 5 up most) (asymmetry_check fibre link ∷ []) (low most up m)
     ∙ after_down most fibre down up link h k l
 
--- both ways are short enough
+-- both delays are short enough
 pub both_short : (most : ℤ) (fibre : FibreState) (down up : ℤ) (link : LinkCfg) (r : Option Breach) →
     lt_z fibre.ms (pos 0) ≡ false → lt_z fibre.sm (pos 0) ≡ false → lt_z most down ≡ false →
     lt_z most up ≡ false → r ≡ told_of (asymmetry_check fibre link ∷ []) → r ≡ told_of (fibre_by most fibre down up link)
@@ -83,7 +83,7 @@ both_short most fibre down up link r h k l m e =
     e ∙ holds_first (at_most 5 up most) (asymmetry_check fibre link ∷ []) (not_low most up m)
     ∙ after_down most fibre down up link h k l
 
--- the last comparison, by the parts of it
+-- the last comparison, from its parts
 pub last_check : (fibre : FibreState) (link : LinkCfg) (r : Option Breach) (shown bound : ℤ) → r ≡ told_of (at_most 5 shown bound ∷ []) →
     shown ≡ size_of (asymmetry link.kappa fibre.ms fibre.sm) → bound ≡ pos (2 ^ 40 * link.e_asym) →
     r ≡ told_of (asymmetry_check fibre link ∷ [])

@@ -1,4 +1,4 @@
--- What is told of the delays that a link would have after an event.
+-- The checks of the delays that a link would have after an event.
 use Rattle.std.proofs.Common.{◌≡◌, ◌∙◌, refl, ap, ap₂, sym, subst, ℕ, ◌^◌, ◌<◌, ◌≤◌, ◌==◌, ℤ, pos, ◌+ℤ◌, unsigned_abs, Bool, true, false, if◌then◌else◌, List, [], map, Option, None, Some, option_map, arith}
 use Rattle.std.proofs.lemmas.Bool.{eq-eqb}
 use Rattle.std.specs.Option.{option_map_or}
@@ -22,7 +22,7 @@ use Rattle.wrp_plant.specs.Sizes.{IsDelayBy}
 use Rattle.wrp_premises.specs.Tried.{EndHas, LinkHas, delays_after}
 use Rattle.wrp_course.specs.WorldAt.{EndAt, WorldAt, delay_from}
 
--- the way down and the way up
+-- the delay down and the delay up
 down_has : (v : WorldAt) (k : ℕ) (fibre : FibreState) (master slave : Delays) → LinkHas v k fibre master slave →
     ((pos master.tx +ℤ fibre.ms) +ℤ pos slave.rx) ≡ delay_from v k Master
 down_has v k fibre master slave h =
@@ -33,7 +33,7 @@ up_has : (v : WorldAt) (k : ℕ) (fibre : FibreState) (master slave : Delays) �
 up_has v k fibre master slave h =
     ap₂ (λ x y. x +ℤ pos y) (ap₂ (λ x f. pos x +ℤ f) h.slave.tx (ap (λ (f : FibreState). f.sm) h.fibre)) h.master.rx
 
--- of the parts that the code compares as of the state that has them
+-- the parts that the code compares are the parts of the state
 pub delays_told : (s : Setting) (v : WorldAt) (k : ℕ) (most down up : ℤ) (fibre : FibreState) (master slave : Delays) (link : LinkCfg) (r : Option Breach) →
     r ≡ told_of (map (only_where fibre.joined) (fibre_by most fibre down up link)) → most ≡ pos (reach s.cfg) → LinkHas v k fibre master slave →
     down ≡ (pos master.tx +ℤ fibre.ms) +ℤ pos slave.rx → up ≡ (pos slave.tx +ℤ fibre.sm) +ℤ pos master.rx → link_of s k ≡ Some link →
@@ -61,7 +61,7 @@ joined_has s w k ms sm span fibre master slave h e p q = record {
   slave = end_has (w.end_at k Slave) span.slave slave h.slave q;
 }
 
--- Delays that move
+-- Delays that change
 
 pub moved_has : (s : Setting) (w : WorldAt) (k : ℕ) (dt : ℤ) (drifts : ArrayVec ℤ) (moves : ArrayVec (ℤ × ℤ)) (span : Span) (fibre : FibreState) (master slave : Delays) →
     SpanIs w k span → fibre ≡ moved_fibre moves.items k span.fibre → master ≡ delays_in span.master → slave ≡ delays_in span.slave →
@@ -75,7 +75,7 @@ moved_has s w k dt drifts moves span fibre master slave h e p q = record {
 pub small_delay : (events : ℕ) (d : ℤ) → events < 2 ^ 32 → IsDelayBy events d → unsigned_abs d ≤ 2 ^ 98
 small_delay events d h k = omega arith
 
--- Modules that are put in place
+-- Modules that are installed
 
 swapped_has : (b : Bool) (swap : Option Swap) (at : EndAt) (old new : Delays) → EndHas at old → new ≡ delays_after b swap old →
     EndHas (if b then with_swap swap at else at) new
@@ -83,7 +83,7 @@ swapped_has true None at old new h e = record { tx = ap (λ (d : Delays). d.tx) 
 swapped_has true (Some swap) at old new h e = record { tx = ap (λ (d : Delays). d.tx) e; rx = ap (λ (d : Delays). d.rx) e }
 swapped_has false swap at old new h e = record { tx = ap (λ (d : Delays). d.tx) e ∙ h.tx; rx = ap (λ (d : Delays). d.rx) e ∙ h.rx }
 
--- at the ends of a link, if there is one
+-- the same at the ends of a link, if there is one
 abbrev master_at : ℕ → List Swap → EndAt → Option LinkCfg → EndAt
 master_at n swaps at o =
     if is_of n (option_map (end_of Master) o) then with_swap (swap_at (option_map_or (λ end. end.port) (option_map (end_of Master) o) 0) swaps) at else at

@@ -1,4 +1,4 @@
--- What is told of a frame that departs, and of one that arrives.
+-- The checks of a frame that departs, and of a frame that arrives.
 use Rattle.std.proofs.Common.{◌≡◌, ◌∙◌, refl, ap, ap₂, sym, ℕ, ℤ, pos, ◌-ℤ◌, true, false, List, [], ◌∷◌, Option, None, Some, option_map}
 use Rattle.std.specs.Option.{option_map_or, option_or}
 use Rattle.std.proofs.lemmas.Option.{none-some, same_Some}
@@ -40,7 +40,7 @@ pub none_leaves_told : (s : Setting) (w : WorldAt) (n : ℕ) (stamp : ℤ) (plac
 none_leaves_told s w n stamp place [] e = refl
 none_leaves_told s w n stamp place (oldest ∷ rest) e = absurd (none-some oldest.at e)
 
--- by the port
+-- by its port
 abbrev pub departs_at : Setting → WorldAt → ℕ → ℤ → Option Place → Option Breach
 departs_at s w n stamp o = told_of (depart_checks s w n stamp o (waiting_at w o))
 
@@ -64,7 +64,7 @@ raw_told s w to raw n clock e_tag transition at r e c t m a h =
     ∙ ap₂ (λ x y. told_of (raw_checks s.cfg.clock (of_node (λ node. node.e_tag) s n) x y raw)) m a
     ∙ received_by (received_at s w (entry_at s to.link to.role (w.end_at to.link to.role).name) raw) (end_at s to.link to.role) n h
 
--- at the end that receives the frame, which the code has as it departed
+-- at the end that receives the frame, as the code keeps it since the frame departed
 pub landing_told : (s : Setting) (w : WorldAt) (i : ℕ) (raw : Raw) (f : FrameAt) (d : Departed) (due stamp r : Option Breach) → DepartedIs f d →
     due ≡ told_of (at_most 8 (size_of (w.time -ℤ d.due)) (pos 0) ∷ []) →
     stamp ≡ told_of (received_to s w (record { link = d.link; role = other_of d.by }) raw) →
@@ -76,7 +76,7 @@ landing_told s w i raw f d due stamp r h u v e =
     (v ∙ ap₂ (λ k b. told_of (received_to s w (record { link = k; role = other_of b }) raw)) h.link h.by)
     ∙ sym (told_middle (at_most 8 (size_of (w.time -ℤ f.due)) (pos 0)) (received s w f raw) (needs (has_carrier s w f.link) ∷ []))
 
--- whether it is on a fibre
+-- whether the frame is on a fibre
 pub flight_told : (s : Setting) (w : WorldAt) (i : ℕ) (raw : Raw) (f : FrameAt) (d : Departed) (r : Option Breach) → DepartedIs f d → is_on d ≡ true →
     r ≡ told_of (arrive_checks s w i raw true (Some f)) → r ≡ told_of (arrive_checks s w i raw (is_on_fibre (Some f)) (Some f))
 flight_told s w i raw f d r h on e = e ∙ ap (λ b. told_of (arrive_checks s w i raw b (Some f))) (sym on ∙ sym (on_alike f d h))
@@ -85,7 +85,7 @@ pub landed_told : (s : Setting) (w : WorldAt) (i : ℕ) (raw : Raw) (f : FrameAt
     r ≡ told_of (not_sent i w.departed ∷ []) → r ≡ told_of (arrive_checks s w i raw (is_on_fibre (Some f)) (Some f))
 landed_told s w i raw f d r h on e = e ∙ ap (λ b. told_of (arrive_checks s w i raw b (Some f))) (sym on ∙ sym (on_alike f d h))
 
--- by the number of the frame
+-- by the frame's number
 pub arrival_told : (s : Setting) (w : WorldAt) (i : ℕ) (raw : Raw) (frames : FramesAt) (d : Departed) (r : Option Breach) → FramesAre s w frames →
     at i frames.kept ≡ Some d → ((f : FrameAt) → DepartedIs f d → r ≡ told_of (arrive_checks s w i raw (is_on_fibre (Some f)) (Some f))) →
     r ≡ told_of (arrive_checks s w i raw (is_on_fibre (w.frame i)) (w.frame i))

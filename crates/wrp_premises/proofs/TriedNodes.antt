@@ -1,4 +1,4 @@
--- What is told of a tick and of a sample.
+-- The checks of a tick and of a sample.
 use Rattle.std.proofs.Common.{◌≡◌, ◌∙◌, refl, ap, ap₂, sym, ℕ, ℤ, pos, Bool, true, false, List, [], ◌∷◌, ◌++◌, map, Option, None, Some}
 use Rattle.std.specs.Option.{option_or, option_map_or}
 use Rattle.wrp_network.specs.declared.network.LinkCfg.{LinkCfg}
@@ -18,7 +18,7 @@ pub early_told : (s : Setting) (w : WorldAt) (n : ℕ) (least now : ℤ) (clock 
 early_told s w n least now clock r e f g h =
     e ∙ ap₂ (λ l t. told_of (early_by l t clock ∷ [])) f g ∙ ap (λ k. told_of (early_by (pos (shortest_tick s.cfg)) w.time k ∷ [])) h
 
--- a sample over a link that has its carrier, and over one that has none
+-- a sample over a link with its carrier, and over a link without
 carried : (b : Bool) (checks : List Check) → b ≡ true → told_of (map (only_where b) checks ++ (needs b ∷ [])) ≡ told_of checks
 carried b checks e = rw e (told_standing (map (only_where true) checks) ∙ ap told_of (made checks))
 

@@ -1,4 +1,5 @@
--- What is told of octets that are handed to a port: the peer that the node's set has there is the port at the other end.
+-- The checks of octets that are handed to a port: the peer in the node's settings is the port at the other end of the
+-- link.
 use Rattle.std.proofs.Common.{◌≡◌, ◌∙◌, refl, ap, sym, ℕ, suc, ◌+◌, ◌==◌, ◌&&◌, Bool, true, false, if◌then◌else◌, List, [], ◌∷◌, ◌++◌, flat_map, Option, Some, Result, Ok, Err, slice_get}
 use Rattle.std.specs.List.{find}
 use Rattle.std.specs.Option.{option_or}
@@ -29,11 +30,11 @@ use Rattle.wrp_course.specs.WorldAt.{WorldAt, has_carrier}
 use Rattle.wrp_course.proofs.Told.{told_cons}
 use Rattle.wrp_course.proofs.LinkPorts.{ds_at, next_link}
 
--- the first port of a number among these
+-- the first of these ports with this number
 abbrev port_in : ℕ → List PortDs → Option PortDs
 port_in p ports = find (λ (ds : PortDs). ds.own.port == p) ports
 
--- an end that was found, and the port of the node that it is
+-- an end that was found, and the node's port there
 record FoundEnd (net : NetCfg) (n p k : ℕ) (links : List LinkCfg) (place : Place) : Type 0 where
   pub at : ℕ
   pub link : LinkCfg
@@ -41,7 +42,7 @@ record FoundEnd (net : NetCfg) (n p k : ℕ) (links : List LinkCfg) (place : Pla
   pub stands : slice_get links at ≡ Some link
   pub port : port_in p (flat_map (ports_at net n) links) ≡ Some (ds_at net place.role link)
 
--- at one link, by what it has of the port: its upper end (a and b), its lower one (c and d)
+-- at one link, by what it has of the port: its upper end (a and b), its lower end (c and d)
 head_end : (a b c d : Bool) (rest : Option Place) (upper lower place : Place) (x y : PortDs) (test : PortDs → Bool) (ports : List PortDs) → test x ≡ b → test y ≡ d →
     (if a && b then Some upper else (if c && d then Some lower else rest)) ≡ Some place →
     (P : Type 0) → (find test (((if a then x ∷ [] else []) ++ (if c then y ∷ [] else [])) ++ ports) ≡ Some x → place ≡ upper → P) →
@@ -101,7 +102,7 @@ peer_told net n p place link e f =
     let same : it.link ≡ link = same_Some it.link link (sym it.stands ∙ ap (slice_get net.links.items) number ∙ f) in
     ap (λ o. (port_or_none o).peer) it.port ∙ peer_at net place.role it.link ∙ ap (identity_at net (other_of place.role)) same
 
--- whether they are forged
+-- whether the octets are forged
 forged_is : (s : Setting) (n p : ℕ) (says : Result PtpMsg FrameFault) (peer : PortIdentity) → (port_of (s.set n) p).peer ≡ peer →
     is_by peer says ≡ is_forged s n p says
 forged_is s n p (Err fault) peer e = refl
@@ -117,7 +118,7 @@ noise_told s w n p says place link peer b forged r set at l q e f g =
     g ∙ ap (λ o. option_or o (told_of (needs (has_carrier s w place.link) ∷ []))) (f ∙ ap (λ t. told_of (forged_by t ∷ [])) truth)
     ∙ sym (told_cons (forged_by (is_forged s n p says)) (needs (has_carrier s w place.link) ∷ []))
 
--- what octets say, as they were read
+-- the octets spell what was decoded
 pub says_it : (octets : List ℕ) (says : Result PtpMsg FrameFault) → ((message : PtpMsg) → says ≡ Ok message → Spells octets message) →
     ((fault : FrameFault) → says ≡ Err fault → IsFirstFault fault octets) → Says octets says
 says_it octets (Ok message) f g = f message refl

@@ -1,4 +1,4 @@
--- What is told of the rates of clocks, and of a time that passes.
+-- The checks of the rates of clocks, and of time that passes.
 use Rattle.std.proofs.Common.{◌≡◌, ◌∙◌, refl, ap, ap₂, sym, subst, ℕ, ◌≤◌, ℤ, pos, ◌+◌, Bool, true, false, not, if◌then◌else◌, List, length, map, flat_map, Option, None, Some, IfSome, slice_get, arith}
 use Rattle.std.specs.Option.{is_some, option_map_or}
 use Rattle.wrp_base.specs.declared.link.ServoState.{ServoState}
@@ -21,7 +21,7 @@ turned : (b : Bool) (x : Option ℕ) → (if b then x else None) ≡ (if not b t
 turned true x = refl
 turned false x = refl
 
--- as the network and the node have it
+-- as the network and the node give it
 abbrev rate_in : (top up locked holdover : Bool) → (slew held : ℕ) → Option ℕ
 rate_in top up locked holdover slew held =
     if top then Some 0 else (if not up then None else (if locked then Some slew else (if holdover then Some held else None)))
@@ -54,7 +54,7 @@ rate_small top up locked state node r e a b =
     subst (λ o. IfSome o (λ x. x ≤ 1_000_000_000)) (sym e)
     (kept_small top up (steered_rate locked state node) 1_000_000_000 (steered_small locked (is_holdover state) node.slew node.held 1_000_000_000 a b))
 
--- Clocks and fibres, as they stand in lists
+-- Clocks and fibres, as elements of lists
 
 abbrev numbers : ℕ → List ℕ
 numbers m = from_on m 0

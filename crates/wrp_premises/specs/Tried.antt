@@ -1,5 +1,5 @@
--- What the code asks as it tries an event: the delays that a link would have, the end that receives a
--- frame, and the port whose message octets say (this project's profile).
+-- What the code checks before an event: the delays that a link would have, the end that receives a
+-- frame, and the port whose message the octets spell (this project's profile).
 use Rattle.std.specs.Prelude.{◌≡◌, ◌-ℤ◌, ℕ, ℤ, pos, Bool, false, List, [], ◌∷◌, Option, None, Some, Result, Ok, Err, if◌then◌else◌}
 use Rattle.std.specs.Option.{option_map_or}
 use Rattle.wrp_network.specs.declared.configuration.NetCfg.{NetCfg}
@@ -31,12 +31,12 @@ use Rattle.wrp_course.specs.WorldAt.{EndAt, WorldAt, has_carrier, reading}
 
 -- Delays
 
--- those after a module was put in place, if one was
+-- the delays after a module was installed, if one was
 abbrev pub with_module : Option Swap → Delays → Delays
 with_module None delays = delays
 with_module (Some swap) delays = record { tx = swap.tx; rx = swap.rx }
 
--- where the end is one of the node that comes up
+-- the same, if the end belongs to the node that comes up
 abbrev pub delays_after : Bool → Option Swap → Delays → Delays
 delays_after is_its swap delays = if is_its then with_module swap delays else delays
 
@@ -44,7 +44,7 @@ pub record EndHas (at : EndAt) (delays : Delays) : Type 0 where
   pub tx : delays.tx ≡ at.tx
   pub rx : delays.rx ≡ at.rx
 
--- in this state a link has this fibre, and these delays at its ends
+-- a link has this fibre in this state, and these delays at its ends
 pub record LinkHas (v : WorldAt) (k : ℕ) (over : FibreState) (upper lower : Delays) : Type 0 where
   pub fibre : over ≡ v.fibre k
   pub master : EndHas (v.end_at k Master) upper
@@ -52,13 +52,13 @@ pub record LinkHas (v : WorldAt) (k : ℕ) (over : FibreState) (upper lower : De
 
 -- Ends
 
--- what is compared as a frame departs over a link that was put out at this time
+-- the checks of a frame, put out at the time `sent`, that departs over a link
 abbrev pub departs_by : Setting → WorldAt → (n k : ℕ) → (stamp sent : ℤ) → List Check
 departs_by s w n k stamp sent =
     at_most 7 (size_of (stamp -ℤ reading w n)) (pos (of_node (λ node. node.e_tx) s n))
     ∷ (at_most 10 (w.time -ℤ sent) (pos (frame_life s.cfg)) ∷ (needs (has_carrier s w k) ∷ []))
 
--- what is compared at the end that receives a frame
+-- the checks at the end that receives a frame
 abbrev pub received_to : Setting → WorldAt → Place → Raw → List Check
 received_to s w to raw =
     option_map_or
@@ -67,12 +67,12 @@ received_to s w to raw =
 
 -- Octets
 
--- portIdentity of an end of a link
+-- the portIdentity of an end of a link
 abbrev pub identity_at : NetCfg → Role → LinkCfg → PortIdentity
 identity_at cfg Master link = upper_of cfg link
 identity_at cfg Slave link = lower_of cfg link
 
--- octets say a message of this port
+-- the octets spell a message of this port
 abbrev pub is_by : PortIdentity → Result PtpMsg FrameFault → Bool
 is_by peer (Err fault) = false
 is_by peer (Ok message) = is_port message.head.source peer
@@ -80,8 +80,8 @@ is_by peer (Ok message) = is_port message.head.source peer
 abbrev pub forged_by : Bool → Check
 forged_by by_peer = record { premise = 12; fails = by_peer; shown = pos 1; bound = pos 0 }
 
--- what is told of octets that are handed to a port, of each state in which its node is set as the
--- network has it
+-- the breach of octets that are handed to a port is the one that the premises have, in each state
+-- whose node has the settings of the network
 abbrev pub TellsNoise : Plant → (n p : ℕ) → List ℕ → Option Breach → Type 0
 TellsNoise plant n p octets breach =
     (says : Result PtpMsg FrameFault) × Says octets says
@@ -90,11 +90,11 @@ TellsNoise plant n p octets breach =
 
 -- Rates
 
--- the rate that a node's clock keeps, if it keeps one: where it is locked, and in HOLDOVER
+-- the rate that a node's clock keeps, if it keeps one: it is locked, or in HOLDOVER
 abbrev pub steered_rate : Bool → ServoState → NodeCfg → Option ℕ
 steered_rate locked state node =
     if locked then Some node.slew else (if is_holdover state then Some node.held else None)
 
--- the grandmaster's does not move, and that of a node that is down keeps none
+-- the grandmaster's clock does not drift, and the clock of a node that is down has no rate to keep
 abbrev pub kept_rate : (is_top up : Bool) → Option ℕ → Option ℕ
 kept_rate is_top up steered = if is_top then Some 0 else (if up then steered else None)

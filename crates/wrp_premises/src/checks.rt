@@ -1,4 +1,4 @@
-//! What a premise compares, and what is told of the first comparison that fails.
+//! What a premise compares, and how a comparison that fails is reported.
 ghost use Rattle.std.specs.Prelude.{◌≡◌, ◌^◌, ◌≤◌, unsigned_abs, [], ◌∷◌};
 ghost use Rattle.wrp_course.specs.Checks.{told_of};
 ghost use Rattle.wrp_course.specs.Checks as spec;
@@ -6,7 +6,8 @@ ghost use Rattle.wrp_course.specs.Checks as spec;
 use wrp_base::Tau;
 use wrp_course::Breach;
 
-/// What is shown is to be at most the bound.
+/// Checks that `shown` is at most `bound`. `None` if it is; otherwise the breach of this premise
+/// with both sides.
 pub fn at_most(premise: u8, shown: Tau, bound: Tau) -> Option<Breach>
     ensures { result ≡ told_of (spec.at_most premise shown bound ∷ []) }
 {
@@ -21,7 +22,8 @@ pub fn at_most(premise: u8, shown: Tau, bound: Tau) -> Option<Breach>
     }
 }
 
-/// What is shown is to be at least the bound.
+/// Checks that `shown` is at least `bound`. `None` if it is; otherwise the breach of this premise
+/// with both sides.
 pub fn at_least(premise: u8, shown: Tau, bound: Tau) -> Option<Breach>
     ensures { result ≡ told_of (spec.at_least premise shown bound ∷ []) }
 {
@@ -36,7 +38,8 @@ pub fn at_least(premise: u8, shown: Tau, bound: Tau) -> Option<Breach>
     }
 }
 
-/// What the event needs stands.
+/// Checks that what the event needs is there. `None` if it is; otherwise premise 13, as 0 against
+/// 1.
 pub fn stands(holds: bool) -> Option<Breach>
     ensures { result ≡ told_of (spec.needs holds ∷ []) }
 {
@@ -51,7 +54,8 @@ pub fn stands(holds: bool) -> Option<Breach>
     }
 }
 
-/// There is no frame of this number; `last` is the last number that was given.
+/// Premise 11: there is no frame of this number. `last` is the last number that was given. Never
+/// `None`.
 pub fn not_sent(number: u32, last: u32) -> Option<Breach>
     ensures { result ≡ told_of (spec.not_sent number last ∷ []) }
 {

@@ -1,4 +1,4 @@
-//! Which premise a handing over breaks.
+//! Which premise the handing over of a frame breaks.
 ghost use Rattle.std.specs.Prelude.{◌≡◌, ◌<◌, ◌-ℤ◌, length, pos, [], ◌∷◌, None, Some};
 ghost use Rattle.std.specs.Option.{option_or};
 ghost use Rattle.wrp_bounds.specs.Times as times;
@@ -18,7 +18,9 @@ use wrp_course::Breach;
 use wrp_flights::Departed;
 use wrp_plant::{Plant, frame_life};
 
-/// A frame is handed over.
+/// The first premise that breaks if the frame of this number is handed over, with both sides: it is too
+/// old (10, in tau), the number was never given or the frame has not arrived (11), or its link has no
+/// carrier (13). `None` if none breaks.
 pub fn deliver_broken(plant: &Plant, number: u32) -> Option<Breach>
     requires { FitsPlant plant.now }
     ensures { (s : Setting) (w : WorldAt) → PlantIs s w plant.now
@@ -30,8 +32,8 @@ pub fn deliver_broken(plant: &Plant, number: u32) -> Option<Breach>
     }
 }
 
-// A frame that was put out at the true time `sent` is handed over: its age is asked first, of those too
-// that are kept no more.
+// The same for a frame that was put out at the true time `sent`. Its age is checked first, even if it
+// is no longer kept.
 fn handed_broken(plant: &Plant, number: u32, sent: Tau) -> Option<Breach>
     requires fits { FitsPlant plant.now }
     requires sent { sent_at number plant.now.frames.sent ≡ Some sent }
@@ -44,7 +46,7 @@ fn handed_broken(plant: &Plant, number: u32, sent: Tau) -> Option<Breach>
     }
 }
 
-// A frame that is not too old is handed over.
+// The same for a frame that is not too old.
 fn young_broken(plant: &Plant, number: u32) -> Option<Breach>
     requires fits { FitsPlant plant.now }
     ensures { (s : Setting) (w : WorldAt) → PlantIs s w plant.now → (f : FrameAt) → w.frame number ≡ Some f
@@ -57,7 +59,7 @@ fn young_broken(plant: &Plant, number: u32) -> Option<Breach>
     }
 }
 
-// The same of a frame that is kept.
+// The same for a frame that is kept.
 fn landed_broken(plant: &Plant, number: u32, frame: &Departed) -> Option<Breach>
     requires fits { FitsPlant plant.now }
     requires link { frame.now.link < length plant.now.net.cfg.links.items }
@@ -73,7 +75,8 @@ fn landed_broken(plant: &Plant, number: u32, frame: &Departed) -> Option<Breach>
     }
 }
 
-/// A frame that was put out at the true time `sent` is not too old.
+/// Premise 10: a frame that was put out at the true time `sent` is not too old. `None` if it holds;
+/// otherwise the frame's age against its life, in tau.
 pub fn age_broken(plant: &Plant, sent: Tau) -> Option<Breach>
     requires fits { FitsPlant plant.now }
     requires sent { IsTime sent }
@@ -86,7 +89,8 @@ pub fn age_broken(plant: &Plant, sent: Tau) -> Option<Breach>
     young_enough(life, now, sent)
 }
 
-/// What was told so far, and else whether a link has its carrier.
+/// The breach that was found so far; if there is none, premise 13 if the link has no carrier. `None` if
+/// neither breaks.
 pub fn carrier_broken(plant: &Plant, so_far: Option<Breach>, k: u8) -> Option<Breach>
     requires fits { FitsPlant plant.now }
     requires link { k < length plant.now.net.cfg.links.items }
@@ -97,7 +101,8 @@ pub fn carrier_broken(plant: &Plant, so_far: Option<Breach>, k: u8) -> Option<Br
     so_far.or(stands(carrier))
 }
 
-/// What was told so far, and else that there is no frame of this number.
+/// The breach that was found so far; if there is none, premise 11: there is no frame of this number.
+/// Never `None`.
 pub fn not_sent_broken(plant: &Plant, so_far: Option<Breach>, number: u32) -> Option<Breach>
     requires { FitsPlant plant.now }
     ensures { (s : Setting) (w : WorldAt) → PlantIs s w plant.now
@@ -107,7 +112,7 @@ pub fn not_sent_broken(plant: &Plant, so_far: Option<Breach>, number: u32) -> Op
     so_far.or(not_sent(number, count))
 }
 
-// How many frames departed.
+// How many frames have departed.
 fn frame_count(plant: &Plant) -> u32
     requires { FitsPlant plant.now }
     ensures { (s : Setting) (w : WorldAt) → PlantIs s w plant.now → result ≡ w.departed }

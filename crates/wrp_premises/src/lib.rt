@@ -1,4 +1,4 @@
-//! Which premise an event breaks, as far as no node is asked: of all of a world but its nodes (this project's profile).
+//! Which premise an event breaks: the checks that need only a world without its nodes (this project's profile).
 #![tactic(auto)]
 
 mod checks;

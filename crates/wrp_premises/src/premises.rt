@@ -1,5 +1,5 @@
-//! The thirteen premises under which an event may come: each function tells the first comparison of
-//! its own that fails, if one does.
+//! The thirteen premises under which an event may come. Each function returns the first of its
+//! comparisons that fails, if one fails.
 pub mod beat;
 pub mod fibres;
 pub mod life;

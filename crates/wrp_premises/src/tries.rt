@@ -1,4 +1,4 @@
-//! Which premise an event breaks, as far as no node is asked.
+//! Which premise an event breaks: the checks that need no node.
 pub mod fibres;
 pub mod frames;
 pub mod modules;
@@ -24,7 +24,8 @@ use wrp_course::Breach;
 use wrp_network::LinkCfg;
 use wrp_plant::{Plant, shortest_tick};
 
-/// A tick.
+/// The first premise that a tick breaks, with both sides: it comes too early (1, in tau), or the
+/// node is down (13). `None` if none breaks.
 pub fn tick_broken(plant: &Plant, n: u8) -> Option<Breach>
     requires fits { FitsPlant plant.now }
     requires node { n < length plant.now.net.cfg.nodes.items }
@@ -38,7 +39,7 @@ pub fn tick_broken(plant: &Plant, n: u8) -> Option<Breach>
     tick_early(least, now, clock).or(stands(up))
 }
 
-/// A node that goes down.
+/// Premise 13: a node that goes down is up. `None` if it is; otherwise 0 against 1.
 pub fn down_broken(plant: &Plant, n: u8) -> Option<Breach>
     requires fits { FitsPlant plant.now }
     requires node { n < length plant.now.net.cfg.nodes.items }
@@ -48,7 +49,7 @@ pub fn down_broken(plant: &Plant, n: u8) -> Option<Breach>
     stands(plant.is_up(n))
 }
 
-/// A link that is cut.
+/// Premise 13: a link that is cut is joined. `None` if it is; otherwise 0 against 1.
 pub fn cut_broken(plant: &Plant, k: u8) -> Option<Breach>
     requires fits { FitsPlant plant.now }
     requires link { k < length plant.now.net.cfg.links.items }
@@ -58,7 +59,7 @@ pub fn cut_broken(plant: &Plant, k: u8) -> Option<Breach>
     stands(plant.joined(k))
 }
 
-// The true one-way delay down.
+// The true one-way delay down, in tau.
 fn delay_down(plant: &Plant, k: u8) -> Tau
     requires fits { FitsPlant plant.now }
     requires link { k < length plant.now.net.cfg.links.items }
@@ -83,7 +84,7 @@ fn phase(plant: &Plant, k: u8, link: &LinkCfg) -> Tau
     sum(apart, down)
 }
 
-// A sample at a node that has a link above it.
+// The first premise that a sample breaks at a node with a link above it.
 fn beat_broken(plant: &Plant, n: u8, k: u8, base: u16, bits: u64) -> Option<Breach>
     requires fits { FitsPlant plant.now }
     requires node { n < length plant.now.net.cfg.nodes.items }
@@ -104,7 +105,9 @@ fn beat_broken(plant: &Plant, n: u8, k: u8, base: u16, bits: u64) -> Option<Brea
     }
 }
 
-/// A sample.
+/// The first premise that a sample breaks, with both sides: the node has no link above it (13), a
+/// beat bit is wrong (9), or the link above has no carrier (13). `base` is below 16,384. `None` if
+/// none breaks.
 pub fn sample_broken(plant: &Plant, n: u8, base: u16, bits: u64) -> Option<Breach>
     requires fits { FitsPlant plant.now }
     requires node { n < length plant.now.net.cfg.nodes.items }

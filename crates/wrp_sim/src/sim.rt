@@ -58,8 +58,9 @@ fn no_ticks(alloc: Global, count: usize) -> Result<Vec<Tau>, AllocError>
 }
 
 impl Sim {
-    /// A simulator of the network that this scenario belongs to, before any event; its numbers are drawn
-    /// from the seed.
+    /// A simulator of the network that this scenario belongs to, before any event; it draws its numbers
+    /// from the seed, which may be any number. `AllocError` if there is not enough memory; then there is
+    /// no simulator.
     pub fn new(alloc: Global, scene: Scene, seed: u64) -> Result<Sim, AllocError>
         ensures is { IfOk result (λ sim. SimIs (new_sim scene seed) sim) }
         ensures scene { IfOk result (λ sim. sim.scene ≡ scene) }
@@ -80,11 +81,13 @@ impl Sim {
         })
     }
 
-    /// The next event: the first rule that applies. `None` if and only if the scenario's time has
-    /// passed and no event is due.
+    /// The next event: the first rule that applies. Its times are in tau. `None` if and only if the
+    /// scenario's time has passed and no event is due. Then the simulator draws no number; it only drops
+    /// the faults whose time has come and that do not apply.
     ///
-    /// The world belongs to the network of the scenario, and the events of this simulator made it,
-    /// except that a `Deliver` may be left out, and that other `Deliver` events, and `Noise`, may come
+    /// The world belongs to the network of the scenario, and the events of this simulator made it, except
+    /// that a `Deliver` may be left out, and that other `Deliver` events, and `Noise`, may come in
+    /// between.
     /// in between.
     pub fn next<F: Fn(i64) -> i64>(&mut self, world: &World<F>) -> Option<Event>
         requires valid { IsValid F.pre F.post world.now }
@@ -102,9 +105,9 @@ impl Sim {
         }
     }
 
-    /// The same, put into the place of another event, which is then gone: with one place that is used
-    /// again and again, no new event has to be made each time. Answers whether there is an event; if there
-    /// is none, the place holds nothing of use.
+    /// The same, put in the place of another event, which is lost. If one place is used again and again,
+    /// no new event has to be made each time. Returns whether there is an event; if there is none, the
+    /// contents of the place are not specified.
     pub fn next_into<F: Fn(i64) -> i64>(&mut self, world: &World<F>, event: &mut Event) -> bool
         requires valid { IsValid F.pre F.post world.now }
         requires fits { FitsSim world.now.plant.net.cfg self.old }

@@ -126,7 +126,8 @@ impl Ticks {
         is_ahead(self.soonest, now)
     }
 
-    /// The first time after now, with its node, if it is known.
+    /// The first tick time after now, in tau, with the number of its node. `None` if it is not known: there
+    /// may still be such a time.
     pub fn next(&self, now: Tau) -> Option<(usize, Tau)>
         ensures { IfSome result (λ next. IsNext now self.now next.0 next.1) }
     {

@@ -1,4 +1,4 @@
--- The nodes take the inputs of an event one after another: what was given so far, and what one more makes of it.
+-- The nodes take the inputs of an event one after another: what was taken so far, and what one more input does.
 use Rattle.std.proofs.Common.{◌≡◌, ◌∙◌, refl, ap, ap₂, sym, subst, ℕ, zero, suc, ◌+◌, ◌<◌, ◌≤◌, ℤ, pos, true, List, [], ◌∷◌, ◌++◌, length, map, take, Some, slice_get, slice_set, slice_index_or, FitsSigned, to_z, of_z, arith}
 use Rattle.std.proofs.lemmas.Int.{to_z-of_z}
 use Rattle.std.proofs.lemmas.List.{take_all}
@@ -26,9 +26,9 @@ use Rattle.wrp_world.specs.Taking.{AreOfNodes, Asks, FirstAsks, Gave, GaveAll, G
 use Rattle.wrp_course.specs.WorldAt.{WorldAt}
 use Rattle.wrp_changes.proofs.Turned.{length_put, put_else}
 
--- Lists, as far as a loop has come to them
+-- Lists, as far as a loop has come
 
--- what stands at a place has its partner there
+-- each element of one list has its partner at the same place in the other
 zip_at : {A B : Type 0} (R : A → B → Type 0) (xs : List A) (ys : List B) (k : ℕ) (y : B) → AllZip R xs ys → slice_get ys k ≡ Some y →
     (x : A) × (slice_get xs k ≡ Some x) × R x y
 zip_at R [] [] k y h e = absurd (none-some y e)
@@ -43,7 +43,7 @@ zip_length R [] (y ∷ ys) h = absurd h
 zip_length R (x ∷ xs) [] h = absurd h
 zip_length R (x ∷ xs) (y ∷ ys) h = ap suc (zip_length R xs ys h.1)
 
--- one more is given
+-- one more input is taken
 given_next : (s : Setting) (y : ℤ) (v : WorldAt) (gs : List Given) (k : ℕ) (g : Given) → slice_get gs k ≡ Some g →
     gives_all s y v (take (suc k) gs) ≡ gives s y (gives_all s y v (take k gs)) g
 given_next s y v [] k g e = absurd (none-some g e)
@@ -67,7 +67,7 @@ all_at P [] k x h e = absurd (none-some x e)
 all_at P (z ∷ xs) zero x h e = subst P (same_Some z x e) h.0
 all_at P (z ∷ xs) (suc k) x h e = all_at P xs k x h.1 e
 
--- What was given so far
+-- What was taken so far
 
 -- with this answer, the first k inputs made the world what it is now
 pub record GivesFirst {F : Type 0} (post : F → ℤ → ℤ → Type 0) (put y : ℤ) (k : ℕ) (old now : WorldOf F) (before after : List NodeOut) : Type 0 where
@@ -93,7 +93,7 @@ first_next post put y k old now new before after out made at within h g = record
       ∙ sym (steps_next s y v gs k i.0 i.1);
 }
 
--- before any was given, any answer will do
+-- before any input was taken, any answer will do
 any_answer : {F : Type 0} (post : F → ℤ → ℤ → Type 0) (put y z : ℤ) (old now : WorldOf F) (before after : List NodeOut) →
     GivesFirst post put y 0 old now before after → GivesFirst post put z 0 old now before after
 any_answer post put y z old now before after h = record {
@@ -117,7 +117,7 @@ plain_is_no_frame (Sent p seq delay stamp) e f = grind (arith, f)
 plain_is_no_frame (Carrier p up m) e f = grind (arith, f)
 plain_is_no_frame Reset e f = grind (arith, f)
 
--- an input behind the first is plain
+-- an input after the first is plain
 later_plain : {F : Type 0} (world : WorldOf F) (outs : List NodeOut) (k : ℕ) (out : NodeOut) → FirstAsks world outs → slice_get outs (suc k) ≡ Some out → is_plain out.input ≡ true
 later_plain world [] k out h e = absurd (none-some out e)
 later_plain world (first ∷ outs) k out h e = all_at (λ (o : NodeOut). is_plain o.input ≡ true) outs k out h.1 e
@@ -126,7 +126,7 @@ first_asks : {F : Type 0} (world : WorldOf F) (outs : List NodeOut) (out : NodeO
 first_asks world [] out h e = absurd (none-some out e)
 first_asks world (first ∷ outs) out h e = subst (λ (o : NodeOut). Asks world o.input) (same_Some first out e) h.0
 
--- the first input's answer serves those behind it, which ask for none
+-- the first input's answer serves the later ones too, since they need none
 gave_next : {F : Type 0} (post : F → ℤ → ℤ → Type 0) (put : ℤ) (k : ℕ) (old now new : WorldOf F) (before after : List NodeOut) (out made : NodeOut) → FirstAsks old before →
     slice_get before k ≡ Some out → k < length after → (y : ℤ) × GivesFirst post put y k old now before after → Gave post put now new out made →
     (y : ℤ) × GivesFirst post put y (suc k) old new before (slice_set after k made)
@@ -135,7 +135,7 @@ gave_next post put zero old now new before after out made f at within h g =
 gave_next post put (suc k) old now new before after out made f at within h g =
     (h.0, first_next post put h.0 (suc k) old now new before after out made at within h.1 (g.1 h.0 (λ e. absurd (plain_is_no_frame out.input (later_plain old before k out f at) e))))
 
--- A loop has come to the place k
+-- A loop has come to place k
 
 pub record TakenTo {F : Type 0} (pre : F → ℤ → Type 0) (post : F → ℤ → ℤ → Type 0) (put : ℤ) (old now : WorldOf F) (before after : List NodeOut) (k : ℕ) : Type 0 where
   pub valid : IsValid pre post now
@@ -149,7 +149,7 @@ pub record TakenTo {F : Type 0} (pre : F → ℤ → Type 0) (post : F → ℤ �
   pub gave : (y : ℤ) × GivesFirst post put y k old now before after
   pub nodes : AreOfNodes old.plant.net.cfg after
 
--- what each input asks
+-- what each input requires
 pub record AllMay {F : Type 0} (old : WorldOf F) (outs : List NodeOut) : Type 0 where
   pub gifts : AllByRecursion (FitsGift old.plant.net.cfg) outs
   pub asks : FirstAsks old outs
@@ -179,7 +179,7 @@ taken_none pre post put old outs v h = record {
   nodes = nodes_of old.plant.net.cfg outs h.gifts;
 }
 
--- the input at the place that the loop has come to
+-- the input at the place to which the loop has come
 pub at_hand : {F : Type 0} (pre : F → ℤ → Type 0) (post : F → ℤ → ℤ → Type 0) (put : ℤ) (old now : WorldOf F) (before after : List NodeOut) (k : ℕ) (out : NodeOut) → k < length after → out ≡ slice_index_or after k out →
     TakenTo pre post put old now before after k → slice_get before k ≡ Some out
 at_hand pre post put old now before after k out l e t = sym (t.left k (omega arith)) ∙ slice_get-get_or after k out l ∙ ap (λ (o : NodeOut). Some o) (sym e)
@@ -194,7 +194,7 @@ pub asks_at : {F : Type 0} (pre : F → ℤ → Type 0) (post : F → ℤ → �
 asks_at pre post put old now before after zero out at h t = subst (λ w. Asks w out.input) (sym (t.first refl)) (first_asks old before out h.asks at)
 asks_at pre post put old now before after (suc k) out at h t = plain_asks now out.input (later_plain old before k out h.asks at)
 
--- so many more than a number
+-- how many more than a number
 less : (k n : ℕ) → k < n → (m : ℕ) × ((m + 1) + k ≡ n)
 less zero zero h = absurd (omega arith)
 less zero (suc n) h = (n, omega arith)
@@ -215,7 +215,7 @@ room_at pre post put old now before after k l t =
     let r : (m : ℕ) × ((m + 1) + k ≡ length before) = less k (length before) (subst (λ n. k < n) t.count l) in
     one_of_more now.plant r.0 (t.room (r.0 + 1) r.1)
 
--- what one more input made
+-- what one more input did
 pub record TookNext {F : Type 0} (pre : F → ℤ → Type 0) (post : F → ℤ → ℤ → Type 0) (put : ℤ) (now new : WorldOf F) (out made : NodeOut) : Type 0 where
   pub valid : IsValid pre post new
   pub gave : Gave post put now new out made
@@ -271,7 +271,7 @@ pub all_of_nodes : {F : Type 0} (pre : F → ℤ → Type 0) (post : F → ℤ �
     TakenTo pre post put old now before after k → AreOfNodes now.plant.net.cfg after
 all_of_nodes pre post put old now before after k t = subst (λ (n : Network). AreOfNodes n.cfg after) (sym t.net) t.nodes
 
--- the time is read as it is
+-- the time is read unchanged
 pub all_read : {F : Type 0} (post : F → ℤ → ℤ → Type 0) (put : ℤ) (old new : WorldOf F) (before after : List NodeOut) → FitsSigned w128 put →
     GaveAll post (to_z w128 (of_z w128 put)) old new before after → GaveAll post put old new before after
 all_read post put old new before after fits h = subst (λ z. GaveAll post z old new before after) (to_z-of_z w128 put fits) h

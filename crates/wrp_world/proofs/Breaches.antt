@@ -1,4 +1,4 @@
--- What is told of an event, by its kind.
+-- The breach of an event, for each kind of event.
 use Rattle.std.proofs.Common.{◌≡◌, ◌≤◌, ◌^◌, ℤ, List, sym, subst, unsigned_abs, to_z, of_z, FitsSigned, Option, arith}
 use Rattle.std.proofs.lemmas.Int.{ints, to_z-of_z}
 use Rattle.std.specs.Int.{w64}
@@ -17,7 +17,7 @@ breach_as post world breach e kind same h = subst (λ x. TellsBreach post x worl
 pub event_as : (cfg : NetCfg) (e kind : Event) → e ≡ kind → IsEventOf cfg e → IsEventOf cfg kind
 event_as cfg e kind same h = subst (IsEventOf cfg) same h
 
--- the numbers of an event are read as they are
+-- the numbers of an event are read unchanged
 pub span_read : (cfg : NetCfg) (dt : ℤ) (drifts : List ℤ) (moves : List (ℤ × ℤ)) → IsPass cfg dt drifts moves → to_z w64 (of_z w64 dt) ≡ dt
 span_read cfg dt drifts moves h =
     let fits : FitsSigned w64 dt = omega (arith, ints, h.span.0, h.span.1) in

@@ -1,4 +1,4 @@
--- The node of the first port at which a frame waits that was put out now is one of the world.
+-- The first port at which a waiting frame was put out now belongs to a node of the world.
 use Rattle.std.proofs.Common.{◌∙◌, ap, sym, subst, ℕ, ◌<◌, ℤ, Option, None, Some, IfSome, length}
 use Rattle.wrp_network.specs.declared.configuration.NetCfg.{NetCfg}
 use Rattle.wrp_network.specs.Network.{node_count}

@@ -1,4 +1,5 @@
--- What a world within says: what stands for a state of it has a plant that does, its plant fits, and an event is one of its network.
+-- What a valid world contains: its plant stands for the state that the world stands for, its plant fits, and an event
+-- of its network is one of the plant's.
 use Rattle.std.proofs.Common.{◌≡◌, sym, ap, subst, ℤ, List}
 use Rattle.wrp_node.specs.StandsFor.{NodeOf}
 use Rattle.wrp_plant.specs.declared.plant.Plant.{Plant}

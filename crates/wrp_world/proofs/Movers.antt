@@ -1,4 +1,4 @@
--- The White Rabbit message of a frame: what the octets say is one, and only a Signaling has such a message.
+-- The White Rabbit message of a frame: its octets spell one, and only a Signaling has one.
 use Rattle.std.proofs.Common.{◌≡◌, ◌∙◌, refl, ap, sym, subst, ℕ, ◌%◌, ◌==◌, ℤ, Bool, true, false, if◌then◌else◌, List, [], ◌∷◌, None, Some, Result, Ok, Err, arith}
 use Rattle.wrp_base.specs.declared.message.PtpMsg.{PtpMsg}
 use Rattle.wrp_base.proofs.Booleans.{not_both}

@@ -1,4 +1,4 @@
--- In a world whose nodes have laws that fit the links above them, what the laws answered is near the exact fraction.
+-- In a world whose nodes have laws that fit the links above them, the answers of the laws are near the exact fraction.
 use Rattle.std.proofs.Common.{◌≡◌, inl, inr, ap, sym, subst, ℕ, ℤ, ◌+ℤ◌, ◌-ℤ◌, ◌*ℤ◌, pos, ◌*◌, ◌≤◌, ◌<◌, ◌^◌, ◌≤ℤ◌, unsigned_abs, List, length, Option, None, Some, is_some, false, arith}
 use Rattle.std.proofs.lemmas.Option.{slice_get_cases}
 use Rattle.wrp_network.specs.declared.configuration.NetCfg.{NetCfg}
@@ -27,7 +27,7 @@ use Rattle.wrp_world.specs.InTrueRun.{HasFittingLaws}
 use Rattle.wrp_world.specs.New.{FitsLaw}
 use Rattle.wrp_world.specs.StandsFor.{NodeIs, StandsFor, WorldOf}
 
--- An answer of a law
+-- One answer of a law
 
 no_worse : (z : ℤ) (err most least : ℕ) → unsigned_abs z ≤ 2 ^ 40 * err → err ≤ most → least ≡ most → unsigned_abs z ≤ 2 ^ 40 * least
 no_worse z err most least h few same = omega (arith, h, few, same)
@@ -46,7 +46,7 @@ law_near pre post cfg n law fits hop x y numbers low high answer =
 
 -- The answers of a node
 
--- where no link is above a node, nothing is asked of its answers
+-- if no link is above a node, its answers need not be near anything
 none_above : (s : Setting) (n : ℕ) → ((link : LinkCfg) → link_above s.cfg n ≡ Some link → ⊥) → (a y : ℤ) → IsNearAnswer s n a y
 none_above s n none a y = λ hop numbers. let it : HopOf s.cfg n hop = hop_of s.cfg n hop numbers in absurd (none it.link it.above)
 
@@ -76,7 +76,7 @@ node_near pre post s w n node fits is =
 beyond : (a b n : ℕ) → a ≡ b → a ≤ n → n < b → ⊥
 beyond a b n same past inside = omega (arith, same, past, inside)
 
--- so it is with each number of a node
+-- this holds of each node, by its number
 pub answers_near : {F : Type 0} (pre : F → ℤ → Type 0) (post : F → ℤ → ℤ → Type 0) (s : Setting) (w : WorldAt) (world : WorldOf F) →
     IsNetwork s → HasFittingLaws pre post s.cfg world → StandsFor post s w world → IsAnswered (IsNearAnswer s) s w
 answers_near {F} pre post s w world network laws stands n =

@@ -1,4 +1,4 @@
--- A world before any event stands for the first state of a world, and each of its nodes for no inputs.
+-- A world before any event stands for the first state of a world, and each of its nodes stands for no inputs.
 use Rattle.std.proofs.Common.{◌≡◌, refl, ℕ, ◌≤◌, ℤ, List, length, Option, arith}
 use Rattle.wrp_network.specs.declared.configuration.NetCfg.{NetCfg}
 use Rattle.wrp_network.specs.Network.{node_count}
@@ -9,7 +9,7 @@ use Rattle.wrp_plant.specs.Plant.{Each, FitsPlant, PlantIs}
 use Rattle.wrp_world.specs.StandsFor.{IsValid, StandsFor, WorldOf}
 use Rattle.wrp_course.specs.WorldAt.{new_world}
 
--- what the code made of a network and of laws
+-- what the code makes of a network and of laws
 pub record IsNewWorld {F : Type 0} (pre : F → ℤ → Type 0) (post : F → ℤ → ℤ → Type 0) (cfg : NetCfg) (db : Database) (laws : List (Option (LawOf F))) (world : WorldOf F) : Type 0 where
   pub plant : PlantIs (setting_of cfg db laws) (new_world (setting_of cfg db laws)) world.plant
   pub fits : FitsPlant world.plant

@@ -1,4 +1,5 @@
--- A step of a node, as the node took its input: what the rest of the world is told of it is the step of the definition.
+-- The step of a node that took its input: what is reported of it to the rest of the world is the step of the
+-- definition.
 use Rattle.std.proofs.Common.{◌≡◌, ◌∙◌, refl, ap, ap₂, sym, subst, ℕ, zero, suc, ◌==◌, ◌||◌, ◌≤◌, ◌^◌, ◌⊎◌, inl, inr, ℤ, pos, unsigned_abs, Bool, true, false, if◌then◌else◌, List, [], ◌∷◌, ◌++◌, length, map, flat_map, Option, None, Some, option_map, slice_get, Result, arith}
 use Rattle.std.proofs.lemmas.Int.{ints}
 use Rattle.std.specs.List.{AllByRecursion, AllZip, list_any}
@@ -49,7 +50,7 @@ use Rattle.wrp_course.specs.Setting.{Setting, end_at, end_of, node_setting_of}
 use Rattle.wrp_world.specs.StandsFor.{WorldOf}
 use Rattle.wrp_course.specs.WorldAt.{WorldAt}
 
--- What is noted beside an input
+-- What is noted with an input
 
 pub read_is_said : (put : ℤ) (says : Result PtpMsg FrameFault) (at : ℤ) (input : Input) → IsRead put says at input → IsSaid input says
 read_is_said put says at (Frame p octets raw sample) h = h.0
@@ -70,7 +71,7 @@ said_is_read put says Reset h = tt
 abbrev pub took : Input → Result PtpMsg FrameFault → ℤ → Taken
 took input says answer = record { input = input; says = says; answer = answer }
 
--- an input makes one step, whatever is noted beside one that is no frame
+-- an input has only one step: what is noted with it does not matter unless it is a frame
 same_step : (fixed : NodeSetting) (n : NodeAt) (input : Input) (says other : Result PtpMsg FrameFault) (y answer : ℤ) →
     IsSaid input says → IsSaid input other → (is_frame input ≡ true → y ≡ answer) →
     node_step fixed (took input other y) n ≡ node_step fixed (took input says answer) n
@@ -82,7 +83,7 @@ same_step fixed n (Sent p seq delay stamp) says other y answer h k e = only_fram
 same_step fixed n (Carrier p up m) says other y answer h k e = only_frames_say fixed n (Carrier p up m) other says y answer refl
 same_step fixed n Reset says other y answer h k e = only_frames_say fixed n Reset other says y answer refl
 
--- A node of a state took an input: n is the node of the state, which these inputs made
+-- A node of a state took an input: n is the state's node, which these inputs made
 pub record NodeStepped {F : Type 0} (post : F → ℤ → ℤ → Type 0) (fixed : NodeSetting) (n : NodeAt) (inputs : List Taken) (t : Taken) (node : NodeOf F) (put_out : List Output) : Type 0 where
   pub outputs : put_out ≡ outputs_of fixed t.input n (node_step fixed t n)
   pub at : (node_step fixed t n).node ≡ node_after fixed (t ∷ inputs)
@@ -177,7 +178,7 @@ step_where : (b : Bool) (c : ℤ) → (unsigned_abs c == 0) ≡ b → cycles_in 
 step_where true c e = zero_size c e
 step_where false c e = refl
 
--- outputs among which there is none, behind others
+-- outputs after others, with no clock step among them
 none_behind : (xs ys : List Output) → AllByRecursion NoStep ys → cycles_in (xs ++ ys) ≡ cycles_in xs
 none_behind [] ys h = none_in ys h
 none_behind (Send p frame ∷ xs) ys h = none_behind xs ys h
@@ -253,7 +254,7 @@ end_among net n (link ∷ links) zero r end e h =
 end_among net n (link ∷ links) (suc k) r end e h =
     any_later end.port (ports_at net n link) (flat_map (ports_at net n) links) (end_among net n links k r end e h)
 
--- each end of a link that is a node's is one of the node's ports
+-- each end of a link that belongs to a node is one of the node's ports
 pub end_is_port : (s : Setting) (n k : ℕ) (r : Role) (end : End) → s.set n ≡ set_of s.cfg n → end_at s k r ≡ Some end → end.node ≡ n →
     is_own_port (node_setting_of s n) end.port ≡ true
 end_is_port s n k r end set e h = ap (λ (x : NodeSet). has_port end.port x.ports.items) set ∙ end_among s.cfg n s.cfg.links.items k r end e h
@@ -261,9 +262,9 @@ end_is_port s n k r end set e h = ap (λ (x : NodeSet). has_port end.port x.port
 pub ports_differ : (s : Setting) (n : ℕ) → s.set n ≡ set_of s.cfg n → NamesNoPortTwice s.cfg → OfDifferentNumbers (s.set n).ports.items
 ports_differ s n set once = subst (λ (x : NodeSet). OfDifferentNumbers x.ports.items) (sym set) (different_numbers s.cfg n once)
 
--- What is told
+-- What is reported
 
--- the facts of a step: a node of a setting took an input, and this is told of it
+-- the facts of a step: a node with a setting took an input, and this is reported of it
 pub record SteppedAt {F : Type 0} (post : F → ℤ → ℤ → Type 0) (s : Setting) (v : WorldAt) (put y : ℤ) (g : Given) (old new : NodeOf F) (out : NodeOut) (put_out : List Output) (news : News) : Type 0 where
   pub set : s.set g.to ≡ set_of s.cfg g.to
   pub once : NamesNoPortTwice s.cfg
@@ -308,7 +309,7 @@ is_step_of post s v put y g old new out put_out news h = record {
   ports = λ k r end e own. port_told post s v put y g old new out put_out news h end.port (end_is_port s g.to k r end h.set e own);
 }
 
--- What telling it asks
+-- What the report requires
 
 pub sends_few : {F : Type 0} (post : F → ℤ → ℤ → Type 0) (s : Setting) (v : WorldAt) (put y : ℤ) (g : Given) (old new : NodeOf F) (out : NodeOut) (put_out : List Output) (news : News) →
     SteppedAt post s v put y g old new out put_out news → SendsFew put_out
@@ -333,7 +334,7 @@ may_step post s v put y g old new out put_out news world h a =
     subst (λ c. (c ≡ pos 0) ⊎ ((unsigned_abs c ≤ 2 ^ 62) × NoneStepped world.plant)) (sym e)
     (asked world g.input (step_of s y v g).cycles (subst (Asks world) h.input a) held.by_frame held.held)
 
--- How a node's ticks count
+-- How the ticks of a node are counted
 pub ticks_told : {F : Type 0} (post : F → ℤ → ℤ → Type 0) (s : Setting) (v : WorldAt) (put y : ℤ) (g : Given) (old new : NodeOf F) (out : NodeOut) (put_out : List Output) (news : News) →
     SteppedAt post s v put y g old new out put_out news → new.parts.ticks ≡ ticks_by out.input old.parts.ticks
 ticks_told post s v put y g old new out put_out news h =

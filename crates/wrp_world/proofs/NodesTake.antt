@@ -1,4 +1,5 @@
--- A node of a world takes an input, and the rest of the world is told of it: what the world stands for, and what it keeps.
+-- A node of a world takes an input, and the step is reported to the rest of the world: what the world then stands for,
+-- and what it keeps.
 use Rattle.std.proofs.Common.{◌≡◌, ◌∙◌, refl, ap, ap₂, sym, subst, ℕ, zero, suc, ◌+◌, ◌<◌, ◌≤◌, ◌==◌, ◌^◌, ℤ, Bool, true, false, if◌then◌else◌, List, [], ◌∷◌, length, map, Some, slice_get, slice_set, slice_index_or, FitsSigned, to_z, of_z, arith}
 use Rattle.std.proofs.lemmas.Int.{to_z-of_z}
 use Rattle.std.proofs.lemmas.Option.{slice_get-get_or, same_Some}
@@ -39,7 +40,7 @@ use Rattle.wrp_world.proofs.NodeSteps.{NodeStepped, SteppedAt, is_step_of, may_s
 use Rattle.wrp_changes.proofs.Turned.{length_put, put_else, put_here}
 use Rattle.wrp_course.proofs.LinkPorts.{other_number}
 
--- What was done: a node of the world took the input, and this is told of it
+-- What was done: a node of the world took the input, and this is reported of it
 pub record TookOne {F : Type 0} (pre : F → ℤ → Type 0) (post : F → ℤ → ℤ → Type 0) (put : ℤ) (old : WorldOf F) (before : NodeOut) (put_out : List Output) (node fresh : NodeOf F) (news : News) : Type 0 where
   pub valid : IsValid pre post old
   pub node_at : slice_get old.nodes before.node ≡ Some node
@@ -67,7 +68,7 @@ stepped_at pre post put old before put_out node fresh news h s v g y st i e =
       news_is = h.news_is;
     }
 
--- the state of the world itself, and the input as it was read
+-- the input as it was read, for the world's own state
 abbrev own_gift : {F : Type 0} (pre : F → ℤ → Type 0) (post : F → ℤ → ℤ → Type 0) (put : ℤ) (old : WorldOf F) (before : NodeOut) (put_out : List Output) (node fresh : NodeOf F) (news : News) →
     TookOne pre post put old before put_out node fresh news → Given
 own_gift pre post put old before put_out node fresh news h = record { to = before.node; input = before.input; says = h.took.0; at = put }
@@ -87,7 +88,7 @@ own_step pre post put old before put_out node fresh news h =
     stepped_at pre post put old before put_out node fresh news h h.valid.setting h.valid.state (own_gift pre post put old before put_out node fresh news h) h.took.1 h.valid.stands
     (own_is pre post put old before put_out node fresh news h) (λ e. refl)
 
--- What telling it asks
+-- What the report requires
 
 pub few_sent : {F : Type 0} (pre : F → ℤ → Type 0) (post : F → ℤ → ℤ → Type 0) (put : ℤ) (old : WorldOf F) (before : NodeOut) (put_out : List Output) (node fresh : NodeOf F) (news : News) →
     TookOne pre post put old before put_out node fresh news → SendsFew put_out
@@ -101,7 +102,7 @@ steps_once pre post put old before put_out node fresh news h a =
     may_step post h.valid.setting h.valid.state put h.took.1 (own_gift pre post put old before put_out node fresh news h) node fresh before put_out news old
     (own_step pre post put old before put_out node fresh news h) a
 
--- What was told, and what came of it
+-- What was reported, and what it did
 
 pub record ToldOne {F : Type 0} (pre : F → ℤ → Type 0) (post : F → ℤ → ℤ → Type 0) (put : ℤ) (old : WorldOf F) (before after : NodeOut) (node fresh : NodeOf F) (news : News) (new : WorldOf F) : Type 0 where
   pub took : TookOne pre post put old before after.outs.items node fresh news
@@ -112,7 +113,7 @@ pub record ToldOne {F : Type 0} (pre : F → ℤ → Type 0) (post : F → ℤ �
       (s : Setting) (v : WorldAt) (g : Given) (taken : Taken) (step : Step) → PlantIs s v old.plant → IsStepOf s v g step news after.outs.items →
       PlantIs s (stepped_by s v g taken step) new.plant
 
--- a node of a state, with the inputs that it had
+-- a node of a state, with the inputs that it has had
 abbrev AtBy : {F : Type 0} → (F → ℤ → ℤ → Type 0) → NodeSetting → NodeAt → List Taken → NodeOf F → Type 0
 AtBy post fixed n inputs node = (n ≡ node_after fixed inputs) × NodeStandsFor post fixed node inputs
 
@@ -121,7 +122,7 @@ either_way : {F : Type 0} (post : F → ℤ → ℤ → Type 0) (fixed : NodeSet
 either_way post fixed node true n m xs ys h k = h refl
 either_way post fixed node false n m xs ys h k = k refl
 
--- each node stands for the inputs that it had, of which one node has one more
+-- each node stands for the inputs that it has had; one node has one more
 nodes_are : {F : Type 0} (post : F → ℤ → ℤ → Type 0) (s : Setting) (v : WorldAt) (g : Given) (taken : Taken) (step : Step) (xs : List (NodeOf F)) (fresh : NodeOf F) →
     AtBy post (node_setting_of s g.to) step.node (taken ∷ v.inputs g.to) fresh → Each (NodeIs post s v) xs → Each (NodeIs post s (stepped_by s v g taken step)) (slice_set xs g.to fresh)
 nodes_are post s v g taken step xs fresh h each m x e =
@@ -174,7 +175,7 @@ gave_one pre post put old before after node fresh news new h = (
 
 -- What the world keeps
 
--- a node that ticked did so by an event
+-- a node that ticked did so in an event
 ticks_within : {F : Type 0} (world : WorldOf F) (n : ℕ) (node : NodeOf F) (input : Input) → slice_get world.nodes n ≡ Some node → Asks world input → node.parts.ticks ≤ world.plant.events →
     ticks_by input node.parts.ticks ≤ world.plant.events
 ticks_within world n node Tick at a h = a n node at
@@ -184,7 +185,7 @@ ticks_within world n node (Sent p seq delay stamp) at a h = h
 ticks_within world n node (Carrier p up m) at a h = h
 ticks_within world n node Reset at a h = omega arith
 
--- what holds of each place, where one is replaced
+-- what is true at each place after one element was replaced
 put_where : {A : Type 0} (P : ℕ → A → Type 0) (xs : List A) (n m : ℕ) (v x : A) (b : Bool) → (m == n) ≡ b → P n v → Each P xs → slice_get (slice_set xs n v) m ≡ Some x → P m x
 put_where P xs n m v x true at h each e =
     let same : m ≡ n = eqb-true m n at in
@@ -239,7 +240,7 @@ pub laws_next : {F : Type 0} (old new : WorldOf F) (n : ℕ) (node fresh : NodeO
 laws_next {F} old new n node fresh at e h =
     ap (map (λ (x : NodeOf F). law_in x.control)) e ∙ map_put (λ (x : NodeOf F). law_in x.control) old.nodes n node fresh at h
 
--- An input that is listed can come
+-- A listed input can come
 
 fits_number : {F : Type 0} (pre : F → ℤ → Type 0) (post : F → ℤ → ℤ → Type 0) (world : WorldOf F) (n p : ℕ) (node : NodeOf F) → IsValid pre post world →
     slice_get world.nodes n ≡ Some node → has_port world.plant.net.cfg n p ≡ true → is_among p node.parts.ports ≡ true
@@ -259,13 +260,13 @@ fits_input pre post world n (Sent p seq delay stamp) node v at h a = (fits_numbe
 fits_input pre post world n (Carrier p up m) node v at h a = fits_number pre post world n p node v at h
 fits_input pre post world n Reset node v at h a = tt
 
--- The time is read as it is
+-- The time is read unchanged
 
 pub news_read : {F : Type 0} (post : F → ℤ → ℤ → Type 0) (put : ℤ) (old new : NodeOf F) (out : NodeOut) (news : News) → FitsSigned w128 put →
     IsNewsOf post (to_z w128 (of_z w128 put)) old new out news → IsNewsOf post put old new out news
 news_read post put old new out news fits h = subst (λ z. IsNewsOf post z old new out news) (to_z-of_z w128 put fits) h
 
--- As the code has it: the world is its plant and its nodes, of which one is lent
+-- As the code has it: the world is its plant and its nodes, one of which is borrowed
 
 pub node_here : {F : Type 0} (pre : F → ℤ → Type 0) (post : F → ℤ → ℤ → Type 0) (world : WorldOf F) (plant : Plant) (nodes : List (NodeOf F)) (out : NodeOut) (i : ℕ) (node : NodeOf F) →
     world_of plant nodes ≡ world → IsValid pre post world → FitsGift world.plant.net.cfg out → i ≡ out.node → node ≡ slice_index_or nodes i node →

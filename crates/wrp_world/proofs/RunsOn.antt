@@ -1,4 +1,4 @@
--- A run goes on with the event that a step takes.
+-- The event of a step continues a run.
 use Rattle.std.proofs.Common.{subst, ℤ, List, ◌∷◌, Result}
 use Rattle.wrp_network.specs.declared.configuration.NetCfg.{NetCfg}
 use Rattle.wrp_base.specs.declared.message.PtpMsg.{PtpMsg}

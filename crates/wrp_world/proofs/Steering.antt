@@ -1,4 +1,5 @@
--- The rate that a clock keeps: the grandmaster's is never steered, so it is asked last whether a node is the grandmaster.
+-- The rate within which a clock keeps: the grandmaster's is never steered, so the code checks last whether a node is
+-- the grandmaster.
 use Rattle.std.proofs.Common.{◌≡◌, ◌∙◌, refl, ap, ap₂, sym, subst, ℕ, ℤ, Bool, true, false, not, if◌then◌else◌, Option, None, Some, slice_get}
 use Rattle.std.specs.Option.{is_some, option_or}
 use Rattle.wrp_network.specs.declared.configuration.NetCfg.{NetCfg}
@@ -19,7 +20,7 @@ use Rattle.wrp_premises.proofs.TriedRates.{rate_told}
 use Rattle.wrp_bound_laws.proofs.Motion.Moving.{no_slave}
 use Rattle.wrp_world.specs.StandsFor.{IsValid, StandsFor, WorldOf}
 
--- a world is of a network
+-- the setting of a world belongs to a network
 pub network_in : {F : Type 0} (pre : F → ℤ → Type 0) (post : F → ℤ → ℤ → Type 0) (s : Setting) (w : WorldAt) (world : WorldOf F) → IsValid pre post world → StandsFor post s w world → IsNetwork s
 network_in pre post s w world v h = record {
   accepted = subst (λ (cfg : NetCfg). IsAccepted cfg s.db) h.plant.cfg (subst (λ (db : Database). IsAccepted world.plant.net.cfg db) h.plant.db v.plant.accepted);

@@ -11,7 +11,7 @@ use Rattle.wrp_node.specs.Set.{set_of}
 use Rattle.wrp_node.specs.StandsFor.{NodeOf, StandsFor as NodeStandsFor}
 use Rattle.wrp_world.specs.New.{IsNewNode}
 
--- what is taken from what is left of a list stands at its place, and leaves the rest
+-- the element that is taken from the rest of a list is the one at its place, and leaves what follows it
 pub record Taken {A : Type 0} (xs rest : List A) (n : ℕ) (x : A) : Type 0 where
   pub at : slice_get xs n ≡ Some x
   pub left : rest ≡ drop (suc n) xs
@@ -34,7 +34,7 @@ taken (y ∷ xs) left rest (suc n) x e f = more x y xs rest n (taken xs left res
 pub left_on : {A : Type 0} (xs rest : List A) (n : ℕ) (x : A) → Taken xs rest n x → rest ≡ drop (n + 1) xs
 left_on xs rest n x t = let next : suc n ≡ n + 1 = omega arith in t.left ∙ ap (λ k. drop k xs) next
 
--- where none is left, all were taken
+-- if none is left, all were taken
 pub all_taken : {A : Type 0} (xs left : List A) (n : ℕ) → left ≡ drop n xs → length left ≡ 0 → n ≤ length xs → n ≡ length xs
 all_taken xs left n e f h = omega (arith, length-drop n xs, ap length e)
 

@@ -1,4 +1,4 @@
--- A run goes on with an event that is taken, where the event keeps all premises in its last state.
+-- An event that is taken continues a run, if it keeps all premises in the run's last state.
 use Rattle.std.proofs.Common.{◌≡◌, ℤ, List, ◌∷◌, Result}
 use Rattle.wrp_base.specs.declared.message.PtpMsg.{PtpMsg}
 use Rattle.wrp_frame.specs.declared.fault.FrameFault.{FrameFault}
@@ -18,7 +18,7 @@ use Rattle.wrp_world.specs.Taking.{laws_of}
 use Rattle.wrp_world.proofs.RunsOn.{goes_on}
 use Rattle.wrp_world.proofs.TrueRuns.{event_in, laws_kept, true_run}
 
--- by what its octets say
+-- given what its octets say
 pub can_so : {F : Type 0} (post : F → ℤ → ℤ → Type 0) (world : WorldOf F) (e : Event) (says : Result PtpMsg FrameFault) → IsSaid e says → CanHappen post world e → CanHappenSo post world e
 can_so post world e says said h = record {
   says = says;

@@ -1,4 +1,4 @@
--- A run goes on with the event that a step takes, and what holds of each event of a run holds of it.
+-- The event of a step continues a run, and what is true of each event of a run is true of it.
 use Rattle.std.proofs.Common.{◌≡◌, ◌∙◌, inl, inr, refl, ap, sym, subst, ℕ, ◌<◌, ◌≤◌, ℤ, List, [], ◌∷◌, length, Option, None, Some, arith}
 use Rattle.std.specs.Prelude.{option_and_then, slice_get}
 use Rattle.std.proofs.lemmas.Option.{slice_get_cases, slice_get_within}
@@ -36,7 +36,7 @@ use Rattle.wrp_world.proofs.NearLaws.{answers_near}
 length_laws : {F : Type 0} (world : WorldOf F) → length (laws_of world) ≡ length world.nodes
 length_laws {F} world = length_map (λ (m : NodeOf F). law_in m.control) world.nodes
 
--- they fit in each world that has the same
+-- they fit in each world with the same laws
 pub laws_kept : {F : Type 0} (pre : F → ℤ → Type 0) (post : F → ℤ → ℤ → Type 0) (cfg : NetCfg) (old new : WorldOf F) →
     laws_of new ≡ laws_of old → HasFittingLaws pre post cfg old → HasFittingLaws pre post cfg new
 laws_kept pre post cfg old new same fit = record {
@@ -54,7 +54,7 @@ inside_none xs n none inside =
       | inr past ↦ past_end (length xs) n past.0 inside
     ]
 
--- each law of a new world is the one that it was given
+-- each law of a new world is the law that it was given
 law_given : {F : Type 0} (pre : F → ℤ → Type 0) (post : F → ℤ → ℤ → Type 0) (cfg : NetCfg) (laws : List (Option (LawOf F))) (n : ℕ) (o : Option (Option (LawOf F))) →
     slice_get laws n ≡ o → Each (FitsLaw pre post cfg) laws → n < length laws → FitsLaw pre post cfg n (option_and_then (λ law. law) o)
 law_given pre post cfg laws n None at fit inside = absurd (inside_none laws n at inside)
@@ -70,7 +70,7 @@ new_laws {F} pre post cfg laws world count counted has fit = record {
       subst (FitsLaw pre post cfg n) (sym (it.is ∙ has n it.x it.at)) (law_given pre post cfg laws n (slice_get laws n) refl fit inside);
 }
 
--- a world before any event is in a run of none
+-- a world before any event is in a run of no events
 pub begins : {F : Type 0} (pre : F → ℤ → Type 0) (post : F → ℤ → ℤ → Type 0) (cfg : NetCfg) (db : Database) (laws : List (Option (LawOf F))) (world : WorldOf F) →
     IsAccepted cfg db → StandsFor post (setting_of cfg db laws) (new_world (setting_of cfg db laws)) world →
     length world.nodes ≡ node_count cfg → length laws ≡ node_count cfg → HasLaws laws world → Each (FitsLaw pre post cfg) laws →
@@ -83,7 +83,7 @@ begins pre post cfg db laws world accepted stands count counted has fit = record
 
 -- A step
 
--- what the laws of a run ask of it
+-- what the laws of a run require of it
 pub true_run : {F : Type 0} (pre : F → ℤ → Type 0) (post : F → ℤ → ℤ → Type 0) (s : Setting) (events : List Happened) (world : WorldOf F) → InTrueRun pre post s events world → TrueRun s events
 true_run pre post s events world h = record {
   run = h.run.run;

@@ -1,4 +1,4 @@
--- An event is taken: it keeps all premises, it changes the world by itself, and the nodes take what it gives.
+-- An event is taken: it keeps all premises, it makes its own change to the world, and the nodes take its inputs.
 use Rattle.std.proofs.Common.{◌≡◌, ◌∙◌, refl, ap, sym, subst, ℕ, ◌+◌, ◌≤◌, ℤ, Bool, true, false, if◌then◌else◌, List, [], ◌∷◌, ◌++◌, flat_map, Option, None, Some, option_map, ◌≢◌, Result, Err, IfErr, arith}
 use Rattle.std.proofs.lemmas.Bool.{true≢false}
 use Rattle.std.specs.List.{AllByRecursion, AllZip}
@@ -56,7 +56,7 @@ untold (Some check) e = absurd (none_is (sym e))
 pub accepted_of : (s : Setting) (w : WorldAt) (says : Result PtpMsg FrameFault) (e : Event) → None ≡ told_of (checks_of s w says e) → Accepts s w says e
 accepted_of s w says e h = (accepted_is_unbroken s w says e).1 (untold (first_broken (checks_of s w says e)) h)
 
--- Of what an event gives only the first is a tick or a frame
+-- Of the inputs of an event, only the first is a tick or a frame
 
 abbrev ArePlain : List Given → Type 0
 ArePlain gs = AllByRecursion (λ (g : Given). is_plain g.input ≡ true) gs
@@ -112,7 +112,7 @@ sent_plain : (n p : ℕ) (stamp : ℤ) (samples : ℕ) (waiting : List Sending) 
 sent_plain n p stamp samples [] = tt
 sent_plain n p stamp samples (oldest ∷ rest) = told_plain n p oldest.message.head.seq stamp samples oldest.message.body
 
--- what the first asks, where the others are plain
+-- what the first input requires, if the others are plain
 abbrev Opens : {F : Type 0} → WorldOf F → List Given → Type 0
 Opens world [] = Unit {0}
 Opens world (g ∷ gs) = Asks world g.input × ArePlain gs
@@ -152,7 +152,7 @@ given_opens world s w v says (Cut k) t h =
 given_opens world s w v says (Join k ms sm) t h =
     plain_opens world (given_by s w v says (Join k ms sm)) (plain_if (has_carrier s v k) (comes_from s v k Master) (comes_from_plain s v k Master))
 
--- as it is listed
+-- the same for the inputs as they are listed
 plain_listed : (put : ℤ) (gs : List Given) (outs : List NodeOut) → AllZip (GiftIs put) gs outs → ArePlain gs → AllByRecursion (λ (o : NodeOut). is_plain o.input ≡ true) outs
 plain_listed put [] [] z h = tt
 plain_listed put [] (o ∷ outs) z h = absurd z
@@ -167,7 +167,7 @@ opens_listed world put (g ∷ gs) (o ∷ outs) z h = (subst (Asks world) (sym z.
 
 -- The event has begun
 
--- what is known as the nodes are to take their inputs
+-- what is known before the nodes take their inputs
 pub record Begun {F : Type 0} (pre : F → ℤ → Type 0) (post : F → ℤ → ℤ → Type 0) (e : Event) (put : ℤ) (old : WorldOf F) (plant : Plant) (outs : List NodeOut) : Type 0 where
   pub valid : IsValid pre post old
   pub can : CanHappenSo post old e
@@ -184,7 +184,7 @@ one_later t e f h k = omega (arith, h, k)
 no_sooner : (t e f : ℕ) → f ≡ e + 1 → t ≤ e → t ≤ f
 no_sooner t e f h k = omega (arith, h, k)
 
--- a frame of which all checks of its arrival hold is on a fibre
+-- if all checks of a frame's arrival hold, it is on a fibre
 arrives_on : (s : Setting) (w : WorldAt) (i : ℕ) (raw : Raw) (on : Bool) (o : Option FrameAt) → AllHold (arrive_checks s w i raw on o) → on ≡ true
 arrives_on s w i raw true o h = refl
 arrives_on s w i raw false o h = absurd (true≢false h.0)
@@ -287,7 +287,7 @@ memory_refused {F} {A} post e world o r y fault t h is memory =
     let refusal : IsRefusal post e world (Memory fault) = (t.0, t.1, λ s w st. accepted_of s w t.0 e (sym h ∙ t.2 s w st)) in
     subst (λ (k : Result A Refused). IfErr k (IsRefusal post e world)) (sym is) (subst (IsRefusal post e world) (sym memory) refusal)
 
--- where no premise is broken, all are kept
+-- if no premise is broken, all are kept
 pub kept_so : {F : Type 0} (pre : F → ℤ → Type 0) (post : F → ℤ → ℤ → Type 0) (e : Event) (world : WorldOf F) (o : Option Breach) →
     TellsBreach post e world o → o ≡ None → IsValid pre post world → CanHappenSo post world e
 kept_so pre post e world o t none v = record {
@@ -299,7 +299,7 @@ kept_so pre post e world o t none v = record {
   accepted = accepted_of v.setting v.state t.0 e (sym none ∙ t.2 v.setting v.state v.stands);
 }
 
--- and so it is in each state that the world stands for
+-- and the same in each state that the world stands for
 pub stepped_so : {F : Type 0} (post : F → ℤ → ℤ → Type 0) (e : Event) (old new : WorldOf F) (outs : List NodeOut) (o : Option Breach) →
     TellsBreach post e old o → o ≡ None → TakenSo post e old new outs → Stepped post e old new outs
 stepped_so post e old new outs o t none taken =

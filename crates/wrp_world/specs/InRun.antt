@@ -1,4 +1,4 @@
--- Worlds that are what the events of a run made of them (this project's profile).
+-- Worlds that the events of a run led to (this project's profile).
 use Rattle.std.specs.Prelude.{ℤ, List, [], ◌∷◌, Option, Result}
 use Rattle.wrp_network.specs.declared.configuration.NetCfg.{NetCfg}
 use Rattle.wrp_base.specs.declared.message.PtpMsg.{PtpMsg}
@@ -22,13 +22,13 @@ pub record InRun {F : Type 0} (post : F → ℤ → ℤ → Type 0) (s : Setting
   pub run : IsRun s events
   pub stands : StandsFor post s (world_after s events) world
 
--- a world before any event is in a run of none
+-- a world before any event is in a run of no events
 abbrev pub NewIsInRun : {F : Type 0} → (F → ℤ → ℤ → Type 0) → Type 0
 NewIsInRun {F} post =
     (cfg : NetCfg) (db : Database) (laws : List (Option (LawOf F))) (world : WorldOf F) → IsAccepted cfg db →
     StandsFor post (setting_of cfg db laws) (new_world (setting_of cfg db laws)) world → InRun post (setting_of cfg db laws) [] world
 
--- an event that was accepted adds itself to each run that the world is in
+-- an accepted event adds itself to each run that the world is in
 abbrev pub StepAddsToRun : {F : Type 0} → (F → ℤ → ℤ → Type 0) → Type 0
 StepAddsToRun {F} post =
     (s : Setting) (events : List Happened) (e : Event) (says : Result PtpMsg FrameFault) (answer : ℤ) (old new : WorldOf F) (outs : List NodeOut) →

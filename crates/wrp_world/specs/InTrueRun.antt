@@ -1,5 +1,5 @@
--- Worlds in a run whose events' numbers fit the types that hold them, with a law that fits for each node that has a link above it
--- (this project's profile).
+-- Worlds in a run whose events' numbers fit the types that hold them, with a fitting law for each node that has a link
+-- above it (this project's profile).
 use Rattle.std.specs.Prelude.{◌≡◌, ℤ, length, List}
 use Rattle.wrp_network.specs.declared.configuration.NetCfg.{NetCfg}
 use Rattle.wrp_network.specs.Network.{node_count}
@@ -12,13 +12,13 @@ use Rattle.wrp_world.specs.New.{FitsLaw}
 use Rattle.wrp_world.specs.StandsFor.{WorldOf}
 use Rattle.wrp_world.specs.Taking.{laws_of}
 
--- each node has a law that fits the link above it, and keeps its fact; the grandmaster has none
+-- each node has a law that fits the link above it and keeps its fact; the grandmaster has none
 pub record HasFittingLaws {F : Type 0} (pre : F → ℤ → Type 0) (post : F → ℤ → ℤ → Type 0) (cfg : NetCfg) (world : WorldOf F) : Type 0 where
   pub count : length world.nodes ≡ node_count cfg
   pub each : Each (FitsLaw pre post cfg) (laws_of world)
 
--- the world stands for what these events, a run of its network, make of the first world; their numbers fit the types that hold
--- them; and each node has a law that fits
+-- the world stands for what these events, a run of its network, make of the first world; their numbers fit the types
+-- that hold them; and each node has a fitting law
 pub record InTrueRun {F : Type 0} (pre : F → ℤ → Type 0) (post : F → ℤ → ℤ → Type 0) (s : Setting) (events : List Happened) (world : WorldOf F) : Type 0 where
   pub run : InRun post s events world
   pub fit : AllFit events

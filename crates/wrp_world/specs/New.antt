@@ -28,8 +28,8 @@ setting_of cfg db laws = record {
   hi = λ n. high_of (law_at laws n);
 }
 
--- the law of a node: it keeps its fact, and has the kind and at most the error of the link above the node; the
--- grandmaster has none
+-- the law of a node keeps its fact, is of the same kind as the link above the node, and has at most its error;
+-- the grandmaster has none
 pub record FitsLaw {F : Type 0} (pre : F → ℤ → Type 0) (post : F → ℤ → ℤ → Type 0) (cfg : NetCfg) (n : ℕ) (law : Option (LawOf F)) : Type 0 where
   pub place : is_some law ≡ is_some (link_above cfg n)
   pub fact : IfSome law (KeepsFact pre post)

@@ -1,4 +1,4 @@
--- What a step of a world answers, and what it makes of the world (this project's profile).
+-- What a step of a world returns, and how it changes the world (this project's profile).
 use Rattle.std.specs.Prelude.{◌≡◌, ◌<◌, ◌+◌, ◌^◌, ℤ, List, map, Some, Result, Option}
 use Rattle.wrp_base.specs.declared.message.PtpMsg.{PtpMsg}
 use Rattle.wrp_frame.specs.declared.fault.FrameFault.{FrameFault}
@@ -16,7 +16,7 @@ use Rattle.wrp_world.specs.StandsFor.{StandsFor, WorldOf}
 use Rattle.wrp_course.specs.WorldAt.{WorldAt}
 use Rattle.wrp_course.specs.declared.breach.Breach.{Breach}
 
--- an event that can come: it is one of the network, and it can still be counted
+-- an event that can come: it belongs to the network, and it can still be counted
 pub record MayCome {F : Type 0} (world : WorldOf F) (e : Event) : Type 0 where
   pub event : IsEventOf world.plant.net.cfg e
   pub room : world.plant.events + 1 < 2 ^ 32
@@ -25,8 +25,8 @@ pub record MayCome {F : Type 0} (world : WorldOf F) (e : Event) : Type 0 where
 abbrev pub step_seen : NodeOut → NodeStepAt
 step_seen out = record { node = out.node; input = out.input; outs = out.outs.items }
 
--- an event was accepted, whose octets say this and at which the law answered so: the nodes made their steps of it, and the
--- world stands for what it makes of each state that it stood for
+-- an event was accepted; says is what its octets say, and answer is the law's answer: outs are the nodes' steps, and
+-- the world stands for what the event makes of each state that it stood for
 pub record Steps {F : Type 0} (post : F → ℤ → ℤ → Type 0) (e : Event) (says : Result PtpMsg FrameFault) (answer : ℤ) (old new : WorldOf F) (outs : List NodeOut) : Type 0 where
   pub said : IsSaid e says
   pub accepted : (s : Setting) (w : WorldAt) → StandsFor post s w old → Accepts s w says e
@@ -36,7 +36,7 @@ pub record Steps {F : Type 0} (post : F → ℤ → ℤ → Type 0) (e : Event) 
 abbrev pub Stepped : {F : Type 0} → (F → ℤ → ℤ → Type 0) → Event → (old new : WorldOf F) → List NodeOut → Type 0
 Stepped post e old new outs = (says : Result PtpMsg FrameFault) × (answer : ℤ) × Steps post e says answer old new outs
 
--- an event was refused for this: the first check that fails, or, where none fails, want of memory
+-- the reason for which an event was refused: the first check that fails, or, if none fails, lack of memory
 abbrev pub IsRefusal : {F : Type 0} → (F → ℤ → ℤ → Type 0) → Event → WorldOf F → Refused → Type 0
 IsRefusal post e world (Broken premise shown bound) =
     (says : Result PtpMsg FrameFault) × IsSaid e says
@@ -46,11 +46,11 @@ IsRefusal post e world (Memory fault) =
     (says : Result PtpMsg FrameFault) × IsSaid e says
     × ((s : Setting) (w : WorldAt) → StandsFor post s w world → Accepts s w says e)
 
--- the world stands for whatever it stood for
+-- the world stands for each state that it stood for
 abbrev pub StaysSo : {F : Type 0} → (F → ℤ → ℤ → Type 0) → (old new : WorldOf F) → Type 0
 StaysSo post old new = (s : Setting) (w : WorldAt) → StandsFor post s w old → StandsFor post s w new
 
--- what is told of an event: of each state that the world stands for, the first check that fails
+-- the breach of an event, for each state that the world stands for: the first check that fails
 abbrev pub TellsBreach :
     {F : Type 0} → (F → ℤ → ℤ → Type 0) → Event → WorldOf F → Option Breach → Type 0
 TellsBreach post e world breach =

@@ -1,6 +1,6 @@
--- What a step of a world carries beside the definition's steps: whatever run the world was in, it goes on with this event, the
--- steps that are answered are those of the nodes in it, and what holds of each event of a run holds of it (this project's
--- profile).
+-- What a step of a world adds to the steps of the definition: this event continues each run that the world was in, the
+-- steps that it returns are the steps of the nodes in that run, and what is true of each event of a run is true of it
+-- (this project's profile).
 use Rattle.std.specs.Prelude.{◌≡◌, ℤ, List, ◌∷◌, map, Result}
 use Rattle.wrp_base.specs.declared.message.PtpMsg.{PtpMsg}
 use Rattle.wrp_frame.specs.declared.fault.FrameFault.{FrameFault}
@@ -14,11 +14,11 @@ use Rattle.wrp_world.specs.InTrueRun.{InTrueRun}
 use Rattle.wrp_world.specs.StandsFor.{WorldOf}
 use Rattle.wrp_world.specs.Step.{step_seen}
 
--- in every run: what holds of links and of dropped frames
+-- in every run: what is true of links and of dropped frames
 pub record CarriesLinks {F : Type 0} (post : F → ℤ → ℤ → Type 0) (s : Setting) (e : Event) (events : List Happened) (new : WorldOf F) (outs : List NodeOut) : Type 0 where
   pub says : Result PtpMsg FrameFault
   pub answer : ℤ
-  -- where octets came that the peer did not send, this is what they say
+  -- if there are octets that the peer did not send, this is what they say
   pub said : IsSaid e says
   pub run : InRun post s (record { event = e; says = says; answer = answer } ∷ events) new
   pub steps : map step_seen outs ≡ steps_at s events (record { event = e; says = says; answer = answer })
@@ -28,11 +28,11 @@ abbrev pub LinksGoOn : {F : Type 0} → (F → ℤ → ℤ → Type 0) → Event
 LinksGoOn post e old new outs =
     (s : Setting) (events : List Happened) → InRun post s events old → CarriesLinks post s e events new outs
 
--- in a run whose numbers fit, with laws that fit: the same, and how far the nodes are from true time
+-- in a run whose numbers fit, with fitting laws: the same, and how far the nodes are from true time
 pub record CarriesTruth {F : Type 0} (pre : F → ℤ → Type 0) (post : F → ℤ → ℤ → Type 0) (s : Setting) (e : Event) (events : List Happened) (new : WorldOf F) (outs : List NodeOut) : Type 0 where
   pub says : Result PtpMsg FrameFault
   pub answer : ℤ
-  -- where octets came that the peer did not send, this is what they say
+  -- if there are octets that the peer did not send, this is what they say
   pub said : IsSaid e says
   pub run : InTrueRun pre post s (record { event = e; says = says; answer = answer } ∷ events) new
   pub steps : map step_seen outs ≡ steps_at s events (record { event = e; says = says; answer = answer })
@@ -43,7 +43,7 @@ abbrev pub TruthGoesOn : {F : Type 0} → (F → ℤ → Type 0) → (F → ℤ 
 TruthGoesOn pre post e old new outs =
     (s : Setting) (events : List Happened) → InTrueRun pre post s events old → CarriesTruth pre post s e events new outs
 
--- Where an event is refused
+-- If an event is refused
 
 -- the world is in every run that it was in
 pub record KeepsRuns {F : Type 0} (pre : F → ℤ → Type 0) (post : F → ℤ → ℤ → Type 0) (old new : WorldOf F) : Type 0 where

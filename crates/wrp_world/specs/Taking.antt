@@ -1,4 +1,4 @@
--- What the nodes make of a world as they take the inputs of an event, one after another (this
+-- What becomes of a world as its nodes take the inputs of an event, one after another (this
 -- project's profile).
 use Rattle.std.specs.Prelude.{◌≡◌, ◌≤◌, ◌<◌, ◌+◌, ◌%◌, ◌==◌, ℕ, ℤ, Bool, true, false, List, [], ◌∷◌, map, Option}
 use Rattle.std.specs.List.{AllByRecursion, AllZip}
@@ -24,9 +24,9 @@ use Rattle.wrp_world.specs.StandsFor.{StandsFor, WorldOf}
 use Rattle.wrp_world.specs.Step.{step_seen}
 use Rattle.wrp_course.specs.WorldAt.{WorldAt}
 
--- What inputs ask of a world
+-- What inputs require of a world
 
--- each node has ticked less often than events came
+-- each node has ticked less often than events have come
 abbrev pub HasTicks : {F : Type 0} → WorldOf F → Type 0
 HasTicks {F} world =
     Each (λ n (node : NodeOf F). node.parts.ticks + 1 ≤ world.plant.events) world.nodes
@@ -37,27 +37,27 @@ Asks world Tick = HasTicks world
 Asks world (Frame p octets raw sample) = NoneStepped world.plant
 Asks world _ = Unit {0}
 
--- an input that asks nothing: neither a tick nor a frame
+-- an input that requires nothing: neither a tick nor a frame
 abbrev pub is_plain : Input → Bool
 is_plain Tick = false
 is_plain (Frame p octets raw sample) = false
 is_plain _ = true
 
--- of the inputs of an event only the first asks something
+-- of the inputs of an event, only the first requires something
 abbrev pub FirstAsks : {F : Type 0} → WorldOf F → List NodeOut → Type 0
 FirstAsks world [] = Unit {0}
 FirstAsks world (out ∷ outs) =
     Asks world out.input × AllByRecursion (λ (o : NodeOut). is_plain o.input ≡ true) outs
 
--- What is told of a node's step
+-- What is reported of a node's step
 
--- octets whose messageType is that of a Signaling
+-- the octets have the messageType of a Signaling
 abbrev pub is_signaling : List ℕ → Bool
 is_signaling [] = false
 is_signaling (first ∷ rest) = first % 16 == 0xC
 
--- what the rest of the world is told of a step: the node, whether it ticked, the message that it
--- was given, and the states of its ports' links before and after
+-- what is reported of a step to the rest of the world: the node, whether it ticked, the message
+-- that it was given, and the states of its ports' links before and after
 pub record IsNewsOf {F : Type 0} (post : F → ℤ → ℤ → Type 0) (put : ℤ) (old new : NodeOf F) (out : NodeOut) (news : News) : Type 0 where
   pub node : news.node ≡ out.node
   pub ticked : news.ticked ≡ is_tick out.input
@@ -71,8 +71,8 @@ pub record IsNewsOf {F : Type 0} (post : F → ℤ → ℤ → Type 0) (put : �
 
 -- What a world becomes
 
--- a node took an input at which the law answered so, should it be asked: what was put out is what
--- its step puts out, and the world stands for what the step makes of each state that it stood for
+-- a node took an input; answer is the law's answer, if it is needed: the outputs are those of the
+-- node's step, and the world stands for what the step makes of each state that it stood for
 pub record Gives {F : Type 0} (post : F → ℤ → ℤ → Type 0) (put answer : ℤ) (old new : WorldOf F) (before after : NodeOut) : Type 0 where
   pub stands :
       (s : Setting) (v : WorldAt) (g : Given) → StandsFor post s v old → GiftIs put g before →
@@ -81,7 +81,7 @@ pub record Gives {F : Type 0} (post : F → ℤ → ℤ → Type 0) (put answer 
       (s : Setting) (v : WorldAt) (g : Given) → StandsFor post s v old → GiftIs put g before →
       step_seen after ≡ node_step_of s answer v g
 
--- an input was taken, with an answer of the law: only a frame asks for one
+-- an input was taken, with an answer of the law: only a frame needs one
 abbrev pub Gave :
     {F : Type 0} → (F → ℤ → ℤ → Type 0) → ℤ → (old new : WorldOf F) →
     (before after : NodeOut) → Type 0
@@ -89,7 +89,7 @@ Gave post put old new before after =
     (answer : ℤ)
     × ((y : ℤ) → (is_frame before.input ≡ true → y ≡ answer) → Gives post put y old new before after)
 
--- all of them took theirs, with one answer of the law
+-- all inputs were taken, with one answer of the law
 pub record GivesAll {F : Type 0} (post : F → ℤ → ℤ → Type 0) (put answer : ℤ) (old new : WorldOf F) (before after : List NodeOut) : Type 0 where
   pub stands :
       (s : Setting) (v : WorldAt) (gs : List Given) → StandsFor post s v old →
@@ -103,7 +103,7 @@ abbrev pub GaveAll :
     (before after : List NodeOut) → Type 0
 GaveAll post put old new before after = (answer : ℤ) × GivesAll post put answer old new before after
 
--- each step is one of a node of the network
+-- each step belongs to a node of the network
 abbrev pub AreOfNodes : NetCfg → List NodeOut → Type 0
 AreOfNodes cfg outs = AllByRecursion (λ (out : NodeOut). out.node < node_count cfg) outs
 

@@ -1,5 +1,5 @@
-//! A network of nodes over true time: the world, which takes events under the premises of its course, and what
-//! then holds of it (this project's profile).
+//! A network of nodes over true time: the world. It takes events if they keep the premises of its course; its
+//! laws say what is then true of it (this project's profile).
 #![tactic(auto)]
 
 mod outcome;

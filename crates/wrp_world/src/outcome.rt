@@ -1,23 +1,23 @@
-//! What a step of a world answers.
+//! What a step of a world returns.
 ghost use Rattle.std.specs.Prelude.{◌≡◌};
 ghost use Rattle.wrp_world.specs.declared.outcome.Refused.TheVariants.{Memory};
 
 use std::alloc::AllocError;
 use wrp_base::Tau;
 
-/// Why an event was refused: the world is as it was.
+/// Why an event was refused. The world is as it was.
 #[derive(Debug, Drop, PartialEq, Eq)]
 pub enum Refused {
     /// The event breaks a premise.
     Broken {
-        /// The number of the premise, 1 to 13: the least that is broken.
+        /// The number of the lowest premise that is broken: 1 to 13.
         premise: u8,
-        /// What the first comparison that fails shows.
+        /// The left side of the first comparison that fails.
         shown: Tau,
-        /// What it would have to keep.
+        /// The right side: the bound that the left side should keep.
         bound: Tau,
     },
-    /// Memory could not be had.
+    /// There is not enough memory.
     Memory(AllocError),
 }
 

@@ -5,11 +5,12 @@ ghost use Rattle.wrp_world.specs.InRun.{NewIsInRun, StepAddsToRun};
 use wrp_bound_laws::{chain_has_constant, offsets_keep_bounds, reports_are_within};
 use wrp_course::{dropped_frames_leave_a_count, ports_are_judged, reported_link_on_is_earned};
 
-/// What holds of each event of every run: each port in WR_LINK_ON has earned it, and so has each that is
-/// reported to be; each port is where its marks lead, and judged Ok exactly in WR_LINK_ON; and a frame that
-/// is dropped as no message, or as a foreign one, leaves a count alone. And where the events' numbers fit
-/// and the laws' answers are near: each node that is up is within its bound of true time in TRACK and in
-/// HOLDOVER, each report of TRACK is true, and each chain has a constant.
+/// What is true of each event of every run. Each port in WR_LINK_ON has earned it, and so has each port
+/// that is reported to be in WR_LINK_ON. Each port is where its marks lead, and is judged Ok exactly in
+/// WR_LINK_ON. A frame that is dropped as no message, or as a foreign one, changes one counter and nothing
+/// else. If the events' numbers fit and the laws' answers are near, this is also true: each node that is up
+/// is within its bound of true time in TRACK and in HOLDOVER, each report of TRACK is true, and each chain
+/// has a constant.
 pub fn events_hold()
     ensures links { LinksHoldInRuns }
     ensures tracks { TracksHoldInRuns }
@@ -23,7 +24,8 @@ pub fn events_hold()
 }
 
 /// A world before any event is in a run of no events, and each accepted event adds itself to each run that
-/// the world is in: so the laws of runs hold of every world that came of a new one by accepted events.
+/// the world is in. So the laws of runs are true of every world that comes from a new one by accepted
+/// events.
 pub fn worlds_are_in_runs<F: Fn(i64) -> i64>()
     ensures new { NewIsInRun F.post }
     ensures step { StepAddsToRun F.post }

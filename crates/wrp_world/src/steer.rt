@@ -3,8 +3,8 @@
 /// How the clock of a node that is up is steered.
 #[derive(Clone, Copy, Debug, PartialEq, Eq)]
 pub struct Steer {
-    /// The value of the node's DAC.
+    /// The DAC value of the node.
     pub dac: u16,
-    /// The rate that the clock keeps, in `10^-12`: at most `10^9`. `None` where it keeps none.
+    /// The rate within which the clock keeps, in `10^-12`: at most `10^9`. `None` if it has none to keep.
     pub kept: Option<u64>,
 }

@@ -1,4 +1,4 @@
-//! The world itself: its calls.
+//! The world and its functions.
 mod asked;
 mod broken;
 mod fitting;
@@ -14,13 +14,13 @@ use wrp_course::NodeOut;
 use wrp_node::Node;
 use wrp_plant::Plant;
 
-/// A network of nodes over true time: what it is after a list of accepted events is the run of the
-/// world (`StandsFor`).
+/// A network of nodes over true time. After a list of accepted events it is what the run of the
+/// world with these events leads to (`StandsFor`).
 #[derive(Drop)]
 pub struct World<F> {
     plant: Plant,
     nodes: Vec<Node<F>>,
-    // Entries of steps that are used again: they hold nothing of use.
+    // Entries of steps that are used again. Their contents do not matter.
     aside: Vec<NodeOut>,
 }
 

@@ -1,4 +1,4 @@
-//! What is given where a node goes down: at each of its ports, ascending.
+//! The inputs that are given when a node goes down: at each of its ports, in ascending order.
 ghost use Rattle.std.specs.Prelude.{◌<◌, length, OnOk};
 ghost use Rattle.wrp_course.specs.declared.event.Event.TheVariants as event;
 ghost use Rattle.wrp_course.specs.Given.{goes_from, if_carried};
@@ -25,7 +25,7 @@ fn goes_at_port(plant: &Plant, n: u8, port: u16, outs: &mut Vec<NodeOut>) -> Res
     }
 }
 
-// At all of them.
+// At all ports.
 fn goes_at_ports(plant: &Plant, n: u8, outs: &mut Vec<NodeOut>) -> Result<(), AllocError>
     requires { FitsPlant plant.now }
     ensures { OnOk result (Adds plant.now 36
@@ -38,7 +38,8 @@ fn goes_at_ports(plant: &Plant, n: u8, outs: &mut Vec<NodeOut>) -> Result<(), Al
     Ok(())
 }
 
-/// What a node that goes down gives.
+/// Lists the inputs that are given when a node goes down. `AllocError` if there is not enough
+/// memory; then the contents of `outs` are not specified.
 pub fn give_down(plant: &Plant, n: u8, outs: &mut Vec<NodeOut>) -> Result<(), AllocError>
     requires fits { FitsPlant plant.now }
     ensures { OnOk result (Gives plant.now (event.Down n) outs.new.items) }

@@ -1,4 +1,4 @@
-//! Carriers that go and come at the ends of a link.
+//! Carriers that are lost and carriers that come, at the ends of a link.
 ghost use Rattle.std.specs.Prelude.{◌≡◌, ◌<◌, length, true, OnOk};
 ghost use Rattle.wrp_base.specs.Link.{other_of};
 ghost use Rattle.wrp_course.specs.Given.{goes_at, goes_from};
@@ -25,7 +25,7 @@ pub fn other_end(place: Place) -> Place
     }
 }
 
-// The numbers of a module at an end of a link, where it is listed there.
+// The numbers of a module at an end of a link, if it is listed there.
 fn entry(plant: &Plant, place: Place, name: &Name) -> Option<Module>
     requires fits { FitsPlant plant.now }
     requires link { place.link < length plant.now.net.cfg.links.items }
@@ -38,7 +38,7 @@ fn entry(plant: &Plant, place: Place, name: &Name) -> Option<Module>
     plant.net.db.module_at(name.as_str(), sent, received)
 }
 
-// The carrier of an end goes.
+// The carrier is lost at an end.
 fn goes_at(plant: &Plant, place: Place, outs: &mut Vec<NodeOut>) -> Result<(), AllocError>
     requires fits { FitsPlant plant.now }
     requires link { place.link < length plant.now.net.cfg.links.items }
@@ -54,7 +54,7 @@ fn goes_at(plant: &Plant, place: Place, outs: &mut Vec<NodeOut>) -> Result<(), A
     add(outs, Gift { node, input })
 }
 
-// The carrier of an end comes, over the module of this name.
+// The carrier comes at an end, with the module of this name.
 fn comes_at(
     plant: &Plant,
     place: Place,
@@ -77,7 +77,9 @@ fn comes_at(
     add(outs, Gift { node, input })
 }
 
-/// The carrier goes at an end of a link, and then at the other.
+/// Adds the two inputs for a carrier that is lost: first at this end of the link, then at the
+/// other. `AllocError` if there is not enough memory; then the contents of `outs` are not
+/// specified.
 pub fn goes_from(plant: &Plant, place: Place, outs: &mut Vec<NodeOut>) -> Result<(), AllocError>
     requires fits { FitsPlant plant.now }
     requires link { place.link < length plant.now.net.cfg.links.items }
@@ -89,8 +91,9 @@ pub fn goes_from(plant: &Plant, place: Place, outs: &mut Vec<NodeOut>) -> Result
     Ok(())
 }
 
-/// The carrier comes at an end of a link and then at the other, over the modules of these
-/// names.
+/// Adds the two inputs for a carrier that comes: first at this end of the link, then at the other,
+/// with the modules of these names. `AllocError` if there is not enough memory; then the contents
+/// of `outs` are not specified.
 pub fn comes_from(
     plant: &Plant,
     place: Place,

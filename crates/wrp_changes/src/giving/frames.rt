@@ -1,4 +1,4 @@
-//! What a frame gives as it is handed over, and as it departs.
+//! The inputs of a frame that is handed over, and of a frame that departs.
 ghost use Rattle.std.specs.Prelude.{◌≡◌, ◌==◌, ◌||◌, ◌<◌, ◌∷◌, [], ℕ, length, pos, true, option_map, IfSome};
 ghost use Rattle.std.specs.List.{AllByRecursion, AllZip};
 ghost use Rattle.std.specs.Option.{option_map_or};
@@ -29,7 +29,7 @@ use wrp_frame::decode;
 use wrp_node::Input;
 use wrp_plant::{EndState, Plant};
 
-// The input that tells the sending of a message: a Sync and a Delay_Req alone are told.
+// The input that reports the sending of a message. Only a Sync and a Delay_Req are reported.
 fn sending(message: &PtpMsg, port: u16, stamp: Stamp) -> Option<Input>
     ensures is { result ≡ sent_by port stamp message.now }
     ensures fits { (cfg : Net) (n : ℕ) → has_port cfg n port ≡ true → IsStamp stamp
@@ -53,14 +53,14 @@ fn sending(message: &PtpMsg, port: u16, stamp: Stamp) -> Option<Input>
     }
 }
 
-// Whether a messageType is that of a Sync or of a Delay_Req.
+// Whether this is the messageType of a Sync or of a Delay_Req.
 fn is_told_kind(kind: u8) -> bool
     ensures { result ≡ ((kind == 0x0) || (kind == 0x1)) }
 {
     kind == 0x0 || kind == 0x1
 }
 
-// Whether that of these octets is.
+// Whether the octets have the messageType of a Sync or of a Delay_Req.
 fn is_told(octets: &[u8]) -> bool
     ensures { result ≡ is_told octets.now }
 {
@@ -70,7 +70,7 @@ fn is_told(octets: &[u8]) -> bool
     }
 }
 
-// The same of octets. Those of another messageType are not read.
+// The input that reports the sending of these octets. Octets of another messageType are not decoded.
 fn sending_of(octets: &[u8], port: u16, stamp: Stamp) -> Option<Input>
     ensures is { (message : Message) → Spells octets.now message
         → result ≡ sent_by port stamp message }
@@ -84,7 +84,7 @@ fn sending_of(octets: &[u8], port: u16, stamp: Stamp) -> Option<Input>
     }
 }
 
-// The same of octets that are read.
+// The same, with the octets decoded.
 fn sending_in(octets: &[u8], port: u16, stamp: Stamp) -> Option<Input>
     ensures is { (message : Message) → Spells octets.now message
         → result ≡ sent_by port stamp message }
@@ -97,7 +97,7 @@ fn sending_in(octets: &[u8], port: u16, stamp: Stamp) -> Option<Input>
     }
 }
 
-// The same of the oldest frame that waits at an end.
+// The same for the oldest frame that waits at an end.
 fn oldest_sending(end: &EndState, port: u16, stamp: Stamp) -> Option<Input>
     ensures is { (at : EndAt) → EndIs at end.now → result ≡ sent_first port stamp at.waiting }
     ensures fits { (cfg : Net) (n : ℕ) → has_port cfg n port ≡ true → IsStamp stamp
@@ -119,7 +119,9 @@ fn to_node(n: u8, input: Option<Input>) -> Option<Gift>
     }
 }
 
-/// The input that a departure gives, at which the sending of a frame may be told.
+/// The input of a departure: it reports the sending of a frame. `stamp` is in tau, within `2^100` either
+/// way. `None` if no frame waits at the port, no link has that port, or the oldest frame is neither a
+/// Sync nor a Delay_Req.
 pub fn gift_of_departure(plant: &Plant, n: u8, port: u16, stamp: Tau) -> Option<Gift>
     requires fits { FitsPlant plant.now }
     requires node { n < node_count plant.now.net.cfg }
@@ -137,7 +139,7 @@ pub fn gift_of_departure(plant: &Plant, n: u8, port: u16, stamp: Tau) -> Option<
     }
 }
 
-/// The input that a frame gives as it is handed over: none where it has not arrived, or is kept no more.
+/// The input of a frame that is handed over. `None` if the frame has not arrived, or is no longer kept.
 pub fn gift_of_frame(plant: &Plant, number: u32) -> Option<Gift>
     requires fits { FitsPlant plant.now }
     ensures { Gives plant.now (event.Deliver number) (entries_of result) }
@@ -148,7 +150,7 @@ pub fn gift_of_frame(plant: &Plant, number: u32) -> Option<Gift>
     }
 }
 
-// The same of a frame that departed.
+// The same for a frame that departed.
 fn arrived(plant: &Plant, frame: &Departed) -> Option<Gift>
     requires fits { FitsPlant plant.now }
     requires frame { FitsDeparted (length plant.now.net.cfg.links.items)
@@ -164,7 +166,7 @@ fn arrived(plant: &Plant, frame: &Departed) -> Option<Gift>
     }
 }
 
-// The same of a frame that arrived so.
+// The same for a frame that arrived with this stamp.
 fn received(plant: &Plant, frame: &Departed, reception: Reception) -> Gift
     requires fits { FitsPlant plant.now }
     requires link { frame.now.link < length plant.now.net.cfg.links.items }
@@ -190,7 +192,7 @@ fn received(plant: &Plant, frame: &Departed, reception: Reception) -> Gift
     }
 }
 
-/// The true time at which a frame was put out, 0 where its number was not given.
+/// The true time at which a frame was put out, in tau. 0 if the number was never given.
 pub fn sent_at(plant: &Plant, number: u32) -> Tau
     requires { FitsPlant plant.now }
     ensures { result ≡ option_map_or (λ t. t) (sent_at number plant.now.frames.sent) (pos 0) }

@@ -1,4 +1,4 @@
-//! What is given where a link is cut, or is joined.
+//! The inputs that are given when a link is cut, and when a link is joined.
 ghost use Rattle.std.specs.Prelude.{◌≡◌, ◌<◌, [], ℤ, length, OnOk, if◌then◌else◌};
 ghost use Rattle.wrp_base.specs.declared.link.Role.TheVariants.{Master};
 ghost use Rattle.wrp_course.specs.declared.event.Event.TheVariants as event;
@@ -24,7 +24,9 @@ fn upper_end(link: u8) -> Place
     }
 }
 
-/// The carrier of a link goes at this end and then at the other, where the link has it.
+/// Adds the two inputs for a carrier that is lost, first at this end and then at the other, if the
+/// link has its carrier. Otherwise it adds none. `AllocError` if there is not enough memory; then
+/// the contents of `outs` are not specified.
 pub fn goes_if_carried(
     plant: &Plant,
     place: Place,
@@ -44,7 +46,7 @@ pub fn goes_if_carried(
     }
 }
 
-// The carrier of a link comes at both ends with the modules in place, where both nodes are up.
+// The carrier of a link comes at both ends, with the installed modules, if both nodes are up.
 fn comes_if_up(plant: &Plant, link: u8, outs: &mut Vec<NodeOut>) -> Result<(), AllocError>
     requires fits { FitsPlant plant.now }
     requires link { link < length plant.now.net.cfg.links.items }
@@ -60,7 +62,7 @@ fn comes_if_up(plant: &Plant, link: u8, outs: &mut Vec<NodeOut>) -> Result<(), A
     }
 }
 
-// The carrier comes at this end and then at the other, with the modules in place.
+// The carrier comes at this end and then at the other, with the installed modules.
 fn comes_in_place(plant: &Plant, place: Place, outs: &mut Vec<NodeOut>) -> Result<(), AllocError>
     requires fits { FitsPlant plant.now }
     requires link { place.link < length plant.now.net.cfg.links.items }
@@ -72,7 +74,8 @@ fn comes_in_place(plant: &Plant, place: Place, outs: &mut Vec<NodeOut>) -> Resul
     comes_from(plant, place, own, other, outs)
 }
 
-/// What a link that is cut gives.
+/// Lists the inputs that are given when a link is cut. `AllocError` if there is not enough memory;
+/// then the contents of `outs` are not specified.
 pub fn give_cut(plant: &Plant, link: u8, outs: &mut Vec<NodeOut>) -> Result<(), AllocError>
     requires fits { FitsPlant plant.now }
     requires link { link < length plant.now.net.cfg.links.items }
@@ -82,7 +85,8 @@ pub fn give_cut(plant: &Plant, link: u8, outs: &mut Vec<NodeOut>) -> Result<(), 
     goes_if_carried(plant, upper_end(link), outs)
 }
 
-/// What a link that is joined gives, whatever its delays.
+/// Lists the inputs that are given when a link is joined, whatever its delays. `AllocError` if
+/// there is not enough memory; then the contents of `outs` are not specified.
 pub fn give_join(plant: &Plant, link: u8, outs: &mut Vec<NodeOut>) -> Result<(), AllocError>
     requires fits { FitsPlant plant.now }
     requires link { link < length plant.now.net.cfg.links.items }

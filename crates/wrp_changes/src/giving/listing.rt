@@ -1,4 +1,4 @@
-//! Inputs that are listed, in place of what stood there or behind it.
+//! Inputs that are listed: instead of what was there, or after it.
 ghost use Rattle.std.specs.Prelude.{◌≡◌, ◌++◌, ◌∷◌, [], OnOk};
 ghost use Rattle.wrp_changes.specs.Giving.{IsListed, IsListedAlone, listed};
 
@@ -10,13 +10,13 @@ use wrp_node::{Input, Outputs};
 /// An input of a node.
 #[derive(Drop)]
 pub struct Gift {
-    /// The node.
+    /// The node that gets it.
     pub node: u8,
-    /// What it is given.
+    /// The input itself.
     pub input: Input,
 }
 
-// An entry is used again.
+// Uses an entry again.
 fn set(out: &mut NodeOut, gift: Gift)
     ensures { out.new ≡ record out.old { node = gift.node; input = gift.input } }
 {
@@ -24,8 +24,8 @@ fn set(out: &mut NodeOut, gift: Gift)
     out.input = gift.input;
 }
 
-/// An input is listed after the others. An entry is large: it is built in a frame of its own, so that no other
-/// event needs room for it.
+/// Lists an input after the others. `AllocError` if there is not enough memory. An entry is large, so this
+/// function builds it in a stack frame of its own, and other events need no room for it.
 #[cold]
 #[inline(never)]
 pub fn add(outs: &mut Vec<NodeOut>, gift: Gift) -> Result<(), AllocError>
@@ -39,7 +39,7 @@ pub fn add(outs: &mut Vec<NodeOut>, gift: Gift) -> Result<(), AllocError>
     Ok(())
 }
 
-// An input is listed alone: an entry that stands there is used again.
+// Lists one input and nothing else. It uses an entry again if there is one.
 fn put_one(outs: &mut Vec<NodeOut>, gift: Gift) -> Result<(), AllocError>
     ensures { OnOk result (IsListedAlone gift outs.new.items) }
 {
@@ -52,14 +52,14 @@ fn put_one(outs: &mut Vec<NodeOut>, gift: Gift) -> Result<(), AllocError>
     }
 }
 
-// Where no entry stands there, those that were laid aside do.
+// If there is no entry, takes the ones that were laid aside.
 fn take_up(outs: &mut Vec<NodeOut>, aside: &mut Vec<NodeOut>) {
     if outs.is_empty() {
         swap(outs, aside);
     }
 }
 
-/// The entries that were listed are laid aside, and nothing is listed.
+/// Lays the listed entries aside, so that nothing is listed.
 pub fn lay_aside(outs: &mut Vec<NodeOut>, aside: &mut Vec<NodeOut>)
     ensures { outs.new.items ≡ [] }
 {
@@ -69,8 +69,9 @@ pub fn lay_aside(outs: &mut Vec<NodeOut>, aside: &mut Vec<NodeOut>)
     outs.clear();
 }
 
-/// An input is listed alone, or none. Entries take much room: those that are not used now are laid
-/// aside, and used again.
+/// Lists one input, or none, instead of what was there. Entries are large: the ones that are not needed now
+/// are laid aside and used again later. `AllocError` if there is not enough memory; then the contents of
+/// `outs` are not specified.
 pub fn put(
     outs: &mut Vec<NodeOut>,
     aside: &mut Vec<NodeOut>,

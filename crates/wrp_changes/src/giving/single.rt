@@ -1,4 +1,4 @@
-//! The one input of an event that gives one at most.
+//! The input of an event that gives at most one.
 ghost use Rattle.std.specs.Prelude.{◌≡◌, ◌<◌, ◌≤◌, ◌+◌, ◌^◌, length};
 ghost use Rattle.wrp_network.specs.Network.{node_count};
 ghost use Rattle.wrp_course.specs.declared.event.Event.TheVariants as event;
@@ -13,7 +13,7 @@ use wrp_course::place_of;
 use wrp_node::Input;
 use wrp_plant::Plant;
 
-/// The input that a tick gives.
+/// The input of a tick. Never `None`.
 pub fn gift_of_tick(plant: &Plant, n: u8) -> Option<Gift>
     requires { n < node_count plant.now.net.cfg }
     ensures { Gives plant.now (event.Tick n) (entries_of result) }
@@ -24,7 +24,8 @@ pub fn gift_of_tick(plant: &Plant, n: u8) -> Option<Gift>
     })
 }
 
-/// The input that a sample gives.
+/// The input of a sample: its number is one more than the node's samples so far, and `base` is at
+/// most 16,383. Never `None`.
 pub fn gift_of_sample(plant: &Plant, n: u8, base: u16, bits: u64) -> Option<Gift>
     requires fits { FitsPlant plant.now }
     requires node { n < node_count plant.now.net.cfg }
@@ -43,7 +44,7 @@ pub fn gift_of_sample(plant: &Plant, n: u8, base: u16, bits: u64) -> Option<Gift
     })
 }
 
-/// The input that octets give which the peer did not send: none where no link has that port.
+/// The input of octets that the peer did not send. `None` if no link has that port.
 pub fn gift_of_noise(plant: &Plant, n: u8, port: u16, bytes: &Frame, raw: Raw) -> Option<Gift>
     requires fits { FitsPlant plant.now }
     requires node { n < node_count plant.now.net.cfg }

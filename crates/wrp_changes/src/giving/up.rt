@@ -1,4 +1,4 @@
-//! What is given where a node comes up: it starts anew, and then at each of its ports, ascending.
+//! The inputs that are given when a node comes up: its restart, then its ports, in ascending order.
 ghost use Rattle.std.specs.Prelude.{◌≡◌, ◌<◌, ◌&&◌, ◌||◌, [], ℤ, length, OnOk, if◌then◌else◌};
 ghost use Rattle.arrayvec.specs.ArrayVec.{ArrayVec as Items};
 ghost use Rattle.wrp_course.specs.declared.event.Event.TheVariants as event;
@@ -32,7 +32,7 @@ fn all_three(a: bool, b: bool, c: bool) -> bool
     a && (b && c)
 }
 
-// Whether a node is up once this one has come up.
+// Whether a node is up after this one has come up.
 fn is_up_with(plant: &Plant, n: u8, other: u8) -> bool
     requires fits { FitsPlant plant.now }
     requires node { other < length plant.now.net.cfg.nodes.items }
@@ -43,7 +43,7 @@ fn is_up_with(plant: &Plant, n: u8, other: u8) -> bool
     either(other == n, up)
 }
 
-// Whether a link has its carrier then.
+// Whether a link then has its carrier.
 fn has_carrier_with(plant: &Plant, n: u8, k: u8) -> bool
     requires fits { FitsPlant plant.now }
     requires link { k < length plant.now.net.cfg.links.items }
@@ -57,7 +57,7 @@ fn has_carrier_with(plant: &Plant, n: u8, k: u8) -> bool
     all_three(joined, upper, lower)
 }
 
-// The name of the module that is then in place at an end.
+// The name of the module that is then installed at an end.
 fn name_after<'a>(plant: &'a Plant, n: u8, swaps: &'a ArrayVec<Swap, 18>, place: Place) -> &'a Name
     requires fits { FitsPlant plant.now }
     requires link { place.link < length plant.now.net.cfg.links.items }
@@ -69,7 +69,7 @@ fn name_after<'a>(plant: &'a Plant, n: u8, swaps: &'a ArrayVec<Swap, 18>, place:
     name_with(name, node == n, port, swaps.as_slice())
 }
 
-// The carrier comes at this end and then at the other, with the modules that are then in place.
+// The carrier comes at this end and then at the other, with the modules that are then installed.
 fn comes_with(
     plant: &Plant,
     n: u8,
@@ -88,7 +88,7 @@ fn comes_with(
     comes_from(plant, place, own, other, outs)
 }
 
-// The same, where the link then has its carrier.
+// The same, if the link then has its carrier.
 fn comes_if_carried(
     plant: &Plant,
     n: u8,
@@ -131,7 +131,7 @@ fn comes_at_port(
     }
 }
 
-// At all of them.
+// At all ports.
 fn comes_at_ports(
     plant: &Plant,
     n: u8,
@@ -150,7 +150,9 @@ fn comes_at_ports(
     Ok(())
 }
 
-/// What a node that comes up with these modules gives, whatever the offset of its clock.
+/// Lists the inputs that are given when a node comes up with these modules, whatever the offset of
+/// its clock. `AllocError` if there is not enough memory; then the contents of `outs` are not
+/// specified.
 pub fn give_up(
     plant: &Plant,
     n: u8,

@@ -20,7 +20,7 @@ use wrp_course::{Place, other_of};
 use wrp_flights::Reception;
 use wrp_plant::Plant;
 
-// A frame arrives, and one event is counted.
+// A frame arrives, and the event is counted.
 fn arrive_from(plant: &mut Plant, number: u32, from: Place, reception: Reception)
     requires fits { FitsPlant plant.old }
     requires few { plant.old.events + 1 < 2 ^ 32 }
@@ -31,7 +31,7 @@ fn arrive_from(plant: &mut Plant, number: u32, from: Place, reception: Reception
     plant.events += 1;
 }
 
-// The end that sent a frame. `None` exactly where no frame of the number is kept.
+// The end that sent a frame. `None` if no frame of this number is kept.
 fn sent_from(plant: &Plant, number: u32) -> Option<Place>
     requires { FitsPlant plant.now }
     ensures value { result ≡ option_map from_of (at number plant.now.frames.kept) }
@@ -61,8 +61,8 @@ fn samples_past(plant: &Plant, from: Place) -> u32
     plant.clock(n).samples
 }
 
-/// A frame that is on a fibre arrives with this stamp, and the older ones of its direction that are on
-/// its fibre are lost.
+/// A frame on a fibre arrives with this stamp. Older frames of the same direction on its fibre are
+/// lost.
 pub fn arrive(plant: &mut Plant, number: u32, raw: Raw)
     requires fits { FitsPlant plant.old }
     requires raw { IsRaw raw }

@@ -1,4 +1,4 @@
-//! Clocks that move away from true time.
+//! Clocks that drift away from true time.
 ghost use Rattle.std.specs.Prelude.{◌≡◌, ◌<◌, ◌≤◌, ◌+◌, ◌+ℤ◌, ◌^◌, length, unsigned_abs};
 ghost use Rattle.wrp_course.specs.Moved.{drift_of};
 ghost use Rattle.wrp_changes.specs.Moves.{At, ComesUp, Drifts, GoesDown, Samples, EachBecame};
@@ -8,7 +8,7 @@ ghost use Rattle.wrp_plant.specs.Sizes.{IsOff};
 use wrp_base::{Tau, sum};
 use wrp_course::ClockState;
 
-// How far a clock moves.
+// How far a clock drifts, in tau.
 fn drift_at(drifts: &[i64], n: usize) -> i64
     ensures value { result ≡ drift_of drifts.now n }
     ensures size { unsigned_abs result ≤ 2 ^ 63 }
@@ -19,7 +19,7 @@ fn drift_at(drifts: &[i64], n: usize) -> i64
     }
 }
 
-// A clock moves.
+// A clock drifts.
 fn drift_by(clock: &mut ClockState, drift: i64)
     requires { IsOff clock.old.off }
     ensures { clock.new ≡ record clock.old { off = clock.old.off +ℤ drift } }
@@ -27,7 +27,7 @@ fn drift_by(clock: &mut ClockState, drift: i64)
     clock.off = sum(clock.off, i128::from(drift));
 }
 
-// A clock moves by its own of the drifts.
+// A clock drifts by its entry in `drifts`.
 fn drift_one(clock: &mut ClockState, drifts: &[i64], n: usize)
     requires { IsOff clock.old.off }
     ensures { Drifts drifts.now n clock.old clock.new }
@@ -35,7 +35,7 @@ fn drift_one(clock: &mut ClockState, drifts: &[i64], n: usize)
     drift_by(clock, drift_at(drifts, n));
 }
 
-/// Each clock moves by its own of the drifts.
+/// Each clock drifts by its entry in `drifts`.
 pub fn drift(clocks: &mut Vec<ClockState>, drifts: &[i64])
     requires { Each (λ n clock. IsOff clock.off) clocks.old.items }
     ensures { EachBecame (Drifts drifts.now) clocks.old.items clocks.new.items }
@@ -45,7 +45,7 @@ pub fn drift(clocks: &mut Vec<ClockState>, drifts: &[i64])
     }
 }
 
-/// A clock counts a sample more.
+/// A node's clock counts one more sample.
 pub fn sampled(clocks: &mut Vec<ClockState>, n: u8)
     requires node { n < length clocks.old.items }
     requires few { Each (λ k clock. clock.samples + 1 < 2 ^ 32) clocks.old.items }
@@ -54,7 +54,7 @@ pub fn sampled(clocks: &mut Vec<ClockState>, n: u8)
     clocks[usize::from(n)].samples += 1;
 }
 
-/// A node's clock is down.
+/// A node's clock goes down.
 pub fn go_down(clocks: &mut Vec<ClockState>, n: u8)
     requires { n < length clocks.old.items }
     ensures { EachBecame (At n GoesDown) clocks.old.items clocks.new.items }
@@ -62,7 +62,7 @@ pub fn go_down(clocks: &mut Vec<ClockState>, n: u8)
     clocks[usize::from(n)].up = false;
 }
 
-/// A node's clock comes up with this offset.
+/// A node's clock comes up with this offset, in tau.
 pub fn come_up(clocks: &mut Vec<ClockState>, n: u8, off: Tau, now: Tau)
     requires { n < length clocks.old.items }
     ensures { EachBecame (At n (ComesUp off now)) clocks.old.items clocks.new.items }

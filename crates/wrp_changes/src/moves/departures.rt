@@ -20,7 +20,7 @@ use wrp_course::{Place, place_of};
 use wrp_flights::Departed;
 use wrp_plant::{EndState, Plant, Span};
 
-// The oldest that waits at an end is taken away.
+// Removes the oldest frame that waits at an end.
 fn lose_oldest(end: &mut EndState)
     ensures { LosesOldest end.old end.new }
 {
@@ -45,7 +45,7 @@ fn take_at(spans: &mut Vec<Span>, place: Place)
     take_oldest(&mut spans[usize::from(place.link)], place.role);
 }
 
-// The delay of a frame from an end.
+// The delay of a frame from this end, in tau.
 fn delay_from(span: &Span, role: Role) -> Tau
     requires ms { IsDelay span.now.fibre.ms }
     requires sm { IsDelay span.now.fibre.sm }
@@ -60,7 +60,7 @@ fn delay_from(span: &Span, role: Role) -> Tau
     }
 }
 
-// The oldest frame that waits at an end, as it departs from there.
+// The frame that departs from an end: the oldest that waits there.
 fn departed(end: &EndState, place: Place, due: Tau) -> Option<Departed>
     ensures { result ≡ departed_of place due end.now.waiting.items }
 {
@@ -78,7 +78,7 @@ fn departed(end: &EndState, place: Place, due: Tau) -> Option<Departed>
     }
 }
 
-// A frame departs, if there is one, and one event is counted.
+// A frame departs, if there is one, and the event is counted.
 fn depart_with(plant: &mut Plant, place: Place, frame: Option<Departed>) -> Result<(), AllocError>
     requires link { place.link < length plant.old.spans.items }
     requires few { plant.old.events + 1 < 2 ^ 32 }
@@ -94,7 +94,7 @@ fn depart_with(plant: &mut Plant, place: Place, frame: Option<Departed>) -> Resu
     Ok(())
 }
 
-// When a frame that departs now from an end is due.
+// When a frame that departs from an end now is due, in tau.
 fn due_from(plant: &Plant, place: Place) -> Tau
     requires fits { FitsPlant plant.now }
     requires link { place.link < length plant.now.net.cfg.links.items }
@@ -107,7 +107,7 @@ fn due_from(plant: &Plant, place: Place) -> Tau
     sum(now, delay)
 }
 
-// The oldest frame that waits at an end, as it departs from there.
+// The frame that departs from an end: the oldest that waits there.
 fn leaving(plant: &Plant, place: Place) -> Option<Departed>
     requires fits { FitsPlant plant.now }
     requires link { place.link < length plant.now.net.cfg.links.items }
@@ -137,8 +137,9 @@ fn depart_from(plant: &mut Plant, place: Place) -> Result<(), AllocError>
     depart_with(plant, place, frame)
 }
 
-/// The oldest frame that waits at a port departs with the next number: none where none waits, or
-/// where no link has that port. Where memory could not be had, nothing changes.
+/// The oldest frame that waits at a port departs with the next number, and the event is counted. If
+/// no frame waits, or no link has that port, the event is only counted. `AllocError` if there is
+/// not enough memory; then nothing changes.
 pub fn depart(plant: &mut Plant, n: u8, port: u16) -> Result<(), AllocError>
     requires fits { FitsPlant plant.old }
     requires few { plant.old.events + 1 < 2 ^ 32 }

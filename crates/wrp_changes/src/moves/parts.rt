@@ -1,4 +1,4 @@
-//! What an event changes of each part of a plant.
+//! What an event changes in each part of a plant.
 ghost use Rattle.std.specs.Prelude.{◌≡◌, ◌<◌, ◌≤◌, ◌+◌, ◌+ℤ◌, ◌≤ℤ◌, ◌^◌, pos, length};
 ghost use Rattle.wrp_changes.specs.Moves.{At, Changed, ComesUp, Cuts, Drifts, DropsAt, GoesDown, Joins, Moves, Same, SameFrames, Samples, SwapsAt, EachBecame};
 ghost use Rattle.wrp_flights.specs.Frames.{Passes, Turned};
@@ -12,7 +12,7 @@ use wrp_base::{Tau, sum};
 use wrp_course::Swap;
 use wrp_plant::Plant;
 
-// One event more.
+// Counts one more event.
 fn count(plant: &mut Plant)
     requires { plant.old.events + 1 < 2 ^ 32 }
     ensures { plant.new ≡ record plant.old { events = plant.old.events + 1 } }
@@ -20,7 +20,7 @@ fn count(plant: &mut Plant)
     plant.events += 1;
 }
 
-// One event more, and it is later by so much.
+// Counts one more event, and moves true time on by dt, in tau.
 fn count_later(plant: &mut Plant, dt: i64)
     requires few { plant.old.events + 1 < 2 ^ 32 }
     requires time { IsTime plant.old.time }
@@ -30,7 +30,7 @@ fn count_later(plant: &mut Plant, dt: i64)
     plant.events += 1;
 }
 
-/// Nothing changes.
+/// Only counts the event.
 pub fn stay(plant: &mut Plant)
     requires { plant.old.events + 1 < 2 ^ 32 }
     ensures { Changed Same Same SameFrames plant.old.time plant.old plant.new }
@@ -101,7 +101,7 @@ pub fn go_down(plant: &mut Plant, n: u8)
     count(plant);
 }
 
-/// A node comes up, with the modules that are put in place.
+/// A node comes up with the modules that these swaps install.
 pub fn come_up(plant: &mut Plant, n: u8, off: Tau, swaps: &ArrayVec<Swap, 18>)
     requires node { n < length plant.old.clocks.items }
     requires time { IsTime plant.old.time }

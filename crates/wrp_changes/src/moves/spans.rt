@@ -1,4 +1,4 @@
-//! Fibres that move, are joined and are cut, and frames that are lost as they wait.
+//! Fibres that change, are joined and are cut, and frames that are lost while they wait.
 ghost use Rattle.std.specs.Prelude.{◌≡◌, ◌<◌, ℕ, pos, true, length, slice_get, Some};
 ghost use Rattle.wrp_course.specs.Moved.{move_of};
 ghost use Rattle.wrp_changes.specs.Moves.{At, Cuts, Drops, DropsAt, Empties, Joins, Moves, EachBecame, Where, touches_in};
@@ -10,7 +10,7 @@ use wrp_course::FibreState;
 use wrp_network::{LinkCfg, NetCfg};
 use wrp_plant::{EndState, Span, down_at, move_by, up_at};
 
-// The delays of a link move by its own of the moves, down and up.
+// Changes the delays of a link, down and up, by its entry in `moves`.
 fn move_span(span: &mut Span, moves: &[(i64, i64)], k: usize)
     requires ms { IsDelay span.old.fibre.ms }
     requires sm { IsDelay span.old.fibre.sm }
@@ -19,7 +19,7 @@ fn move_span(span: &mut Span, moves: &[(i64, i64)], k: usize)
     move_by(&mut span.fibre, down_at(moves, k), up_at(moves, k));
 }
 
-// Whether the delays of a fibre move neither down nor up.
+// Whether neither delay of a fibre changes.
 fn stays_at(moves: &[(i64, i64)], k: usize) -> bool
     ensures { result ≡ true → move_of moves.now k ≡ (pos 0, pos 0) }
 {
@@ -29,7 +29,7 @@ fn stays_at(moves: &[(i64, i64)], k: usize) -> bool
     }
 }
 
-// The same; a fibre that does not move is left at once.
+// Changes the delays of a link by its entry in `moves`; quick for a fibre that does not change.
 fn move_one(span: &mut Span, moves: &[(i64, i64)], k: usize)
     requires ms { IsDelay span.old.fibre.ms }
     requires sm { IsDelay span.old.fibre.sm }
@@ -40,7 +40,7 @@ fn move_one(span: &mut Span, moves: &[(i64, i64)], k: usize)
     }
 }
 
-// Whether no fibre moves.
+// Whether no fibre changes.
 fn all_stay(moves: &[(i64, i64)]) -> bool
     ensures { result ≡ true → (k : ℕ) → move_of moves.now k ≡ (pos 0, pos 0) }
 {
@@ -52,7 +52,7 @@ fn all_stay(moves: &[(i64, i64)]) -> bool
     true
 }
 
-// The delays of each link move by its own of the moves.
+// Changes the delays of each link by its entry in `moves`.
 fn move_each(spans: &mut Vec<Span>, moves: &[(i64, i64)])
     requires { Each (λ k span. IsDelay span.fibre.ms × IsDelay span.fibre.sm) spans.old.items }
     ensures { EachBecame (Moves moves.now) spans.old.items spans.new.items }
@@ -62,7 +62,7 @@ fn move_each(spans: &mut Vec<Span>, moves: &[(i64, i64)])
     }
 }
 
-/// The delays of each link move by its own of the moves; where none moves, no link is looked at.
+/// Changes the delays of each link by its entry in `moves`. If none changes, no link is looked at.
 pub fn move_fibres(spans: &mut Vec<Span>, moves: &[(i64, i64)])
     requires { Each (λ k span. IsDelay span.fibre.ms × IsDelay span.fibre.sm) spans.old.items }
     ensures { EachBecame (Moves moves.now) spans.old.items spans.new.items }
@@ -72,7 +72,7 @@ pub fn move_fibres(spans: &mut Vec<Span>, moves: &[(i64, i64)])
     }
 }
 
-/// A link is joined.
+/// A link is joined with these delays, in tau.
 pub fn join(spans: &mut Vec<Span>, k: u8, ms: Tau, sm: Tau)
     requires { k < length spans.old.items }
     ensures { EachBecame (At k (Joins ms sm)) spans.old.items spans.new.items }
@@ -84,14 +84,14 @@ pub fn join(spans: &mut Vec<Span>, k: u8, ms: Tau, sm: Tau)
     };
 }
 
-// What waits at an end is lost.
+// The frames that wait at an end are lost.
 fn empty(end: &mut EndState)
     ensures { Empties end.old end.new }
 {
     end.waiting.clear();
 }
 
-// What waits at both ends of a link is lost.
+// The frames that wait at both ends of a link are lost.
 fn drop_waiting(span: &mut Span)
     ensures { Drops span.old span.new }
 {
@@ -107,7 +107,7 @@ fn cut_span(span: &mut Span)
     span.fibre.joined = false;
 }
 
-/// A link is cut, and what waits at its ends is lost.
+/// A link is cut, and the frames that wait at its ends are lost.
 pub fn cut(spans: &mut Vec<Span>, k: u8)
     requires { k < length spans.old.items }
     ensures { EachBecame (At k Cuts) spans.old.items spans.new.items }
@@ -115,14 +115,14 @@ pub fn cut(spans: &mut Vec<Span>, k: u8)
     cut_span(&mut spans[usize::from(k)]);
 }
 
-/// An end of a link is this node's.
+/// Whether an end of a link belongs to this node.
 pub fn is_end_of(link: &LinkCfg, n: u8) -> bool
     ensures { result ≡ touches_in n (Some link.now) }
 {
     link.upper == n || link.lower == n
 }
 
-/// An end of the link of a number is this node's.
+/// Whether an end of the link with this number belongs to this node.
 pub fn touches(cfg: &NetCfg, k: usize, n: u8) -> bool
     ensures { result ≡ touches_in n (slice_get cfg.now.links.items k) }
 {
@@ -132,7 +132,7 @@ pub fn touches(cfg: &NetCfg, k: usize, n: u8) -> bool
     }
 }
 
-// What waits at both ends of a link is lost, where it is so.
+// The frames that wait at both ends of a link are lost, if `lost` is true.
 fn drop_where(span: &mut Span, lost: bool)
     ensures { Where lost Drops span.old span.new }
 {
@@ -141,7 +141,7 @@ fn drop_where(span: &mut Span, lost: bool)
     }
 }
 
-/// What waits at the ends of a node's links is lost.
+/// The frames that wait at the ends of a node's links are lost.
 pub fn drop_at(spans: &mut Vec<Span>, cfg: &NetCfg, n: u8)
     ensures { EachBecame (DropsAt n cfg.now.links.items) spans.old.items spans.new.items }
 {

@@ -1,4 +1,4 @@
-//! Modules that are put in place.
+//! Modules that are installed.
 ghost use Rattle.std.specs.Prelude.{◌≡◌, true};
 ghost use Rattle.wrp_changes.specs.Giving.{name_with as name_by};
 ghost use Rattle.wrp_course.specs.Moved.{swap_at};
@@ -8,7 +8,7 @@ use wrp_course::Swap;
 use wrp_network::{LinkCfg, Name, NetCfg};
 use wrp_plant::{EndState, Span, swap_for};
 
-// The same name.
+// A copy of the name.
 fn copied(name: &Name) -> Name
     ensures { result.bytes ≡ name.now.bytes }
 {
@@ -17,7 +17,7 @@ fn copied(name: &Name) -> Name
     copy
 }
 
-// A module is put in place.
+// Installs a module.
 fn put_module(end: &mut EndState, swap: &Swap)
     ensures { Put swap.now end.old end.new }
 {
@@ -26,7 +26,7 @@ fn put_module(end: &mut EndState, swap: &Swap)
     end.rx = swap.rx;
 }
 
-// The module for a port is put in place, if there is one.
+// Installs the module for a port, if there is one.
 fn put_swap(end: &mut EndState, port: u16, swaps: &[Swap])
     ensures { Swapped (swap_at port swaps.now) end.old end.new }
 {
@@ -36,7 +36,7 @@ fn put_swap(end: &mut EndState, port: u16, swaps: &[Swap])
     }
 }
 
-// The same, where the end is the node's.
+// The same, if the end belongs to the node.
 fn put_where(end: &mut EndState, is_its: bool, port: u16, swaps: &[Swap])
     ensures { Where is_its (Swapped (swap_at port swaps.now)) end.old end.new }
 {
@@ -45,7 +45,7 @@ fn put_where(end: &mut EndState, is_its: bool, port: u16, swaps: &[Swap])
     }
 }
 
-// The modules for the ends of a link that are the node's.
+// Installs the modules at the ends of a link that belong to the node.
 fn put_at_link(span: &mut Span, link: &LinkCfg, n: u8, swaps: &[Swap])
     ensures { SwapsSpan n link.now swaps.now span.old span.new }
 {
@@ -53,7 +53,7 @@ fn put_at_link(span: &mut Span, link: &LinkCfg, n: u8, swaps: &[Swap])
     put_where(&mut span.slave, link.lower == n, link.lower_port, swaps);
 }
 
-// The same, of the link of a number.
+// The same for the link of this number.
 fn put_at_number(span: &mut Span, cfg: &NetCfg, k: usize, n: u8, swaps: &[Swap])
     ensures { SwapsAt n swaps.now cfg.now.links.items k span.old span.new }
 {
@@ -63,7 +63,7 @@ fn put_at_number(span: &mut Span, cfg: &NetCfg, k: usize, n: u8, swaps: &[Swap])
     }
 }
 
-/// The modules for the ports of a node are put in place.
+/// Installs the modules for the ports of a node.
 pub fn put_modules(spans: &mut Vec<Span>, cfg: &NetCfg, n: u8, swaps: &[Swap])
     ensures { EachBecame (SwapsAt n swaps.now cfg.now.links.items) spans.old.items spans.new.items }
 {
@@ -72,7 +72,7 @@ pub fn put_modules(spans: &mut Vec<Span>, cfg: &NetCfg, n: u8, swaps: &[Swap])
     }
 }
 
-// The name of the module for a port, and else this one.
+// The name of the module for a port, or this name if there is none.
 fn name_for<'a>(name: &'a Name, port: u16, swaps: &'a [Swap]) -> &'a Name
     ensures { result.now.bytes ≡ name_by true port swaps.now name.now.bytes }
 {
@@ -82,8 +82,7 @@ fn name_for<'a>(name: &'a Name, port: u16, swaps: &'a [Swap]) -> &'a Name
     }
 }
 
-/// The name of the module that is in place at an end once these are put in place at a node, where the
-/// end is the node's.
+/// The name of the module at an end after these swaps at a node, if the end belongs to the node.
 pub fn name_with<'a>(name: &'a Name, is_its: bool, port: u16, swaps: &'a [Swap]) -> &'a Name
     ensures { result.now.bytes ≡ name_by is_its port swaps.now name.now.bytes }
 {

@@ -1,4 +1,4 @@
-//! The ends of links at which a node's frames wait and its link states are marked.
+//! The ends of links where a node's frames wait and its link states are marked.
 ghost use Rattle.std.specs.Prelude.{◌≡◌, ◌<◌, ◌≤◌, ◌+◌, ◌++◌, ◌∷◌, [], ℕ, length, map, slice_get, Some, vec_len, vec_capacity};
 ghost use Rattle.wrp_node.specs.Sends.{frames_at};
 ghost use Rattle.wrp_changes.specs.Moves.{EachBecame, Where};
@@ -14,7 +14,7 @@ use wrp_network::{LinkCfg, NetCfg};
 use wrp_node::Output;
 use wrp_plant::{EndState, PutOut, Span};
 
-/// The same octets.
+/// A copy of the octets.
 pub fn copied(frame: &Frame) -> Frame
     ensures { result ≡ frame.now }
 {
@@ -23,7 +23,7 @@ pub fn copied(frame: &Frame) -> Frame
     copy
 }
 
-// A frame waits behind what waited.
+// A frame waits after the others.
 fn put_frame(waiting: &mut Vec<PutOut>, frame: &Frame, now: Tau)
     requires { vec_len waiting.old + 1 ≤ vec_capacity waiting.old }
     ensures items { waiting.new.items ≡ waiting.old.items ++ (put_at now frame.now.items ∷ []) }
@@ -36,7 +36,7 @@ fn put_frame(waiting: &mut Vec<PutOut>, frame: &Frame, now: Tau)
     });
 }
 
-// An output that is a frame of this port waits behind what waited.
+// An output waits after the others, if it is a frame of this port.
 fn put_one(waiting: &mut Vec<PutOut>, out: &Output, port: u16, now: Tau)
     requires { vec_len waiting.old + length (frames_at port (out.now ∷ [])) ≤ vec_capacity waiting.old }
     ensures items { waiting.new.items ≡ waiting.old.items ++ map (put_at now) (frames_at port (out.now ∷ [])) }
@@ -53,7 +53,7 @@ fn put_one(waiting: &mut Vec<PutOut>, out: &Output, port: u16, now: Tau)
     }
 }
 
-// The frames of a port among these outputs wait behind what waited, in their order.
+// The frames of a port among these outputs wait after the others, in order.
 fn put_all(waiting: &mut Vec<PutOut>, outs: &[Output], port: u16, now: Tau)
     requires { vec_len waiting.old + length (frames_at port outs.now) ≤ vec_capacity waiting.old }
     ensures items { waiting.new.items ≡ waiting.old.items ++ map (put_at now) (frames_at port outs.now) }
@@ -65,7 +65,7 @@ fn put_all(waiting: &mut Vec<PutOut>, outs: &[Output], port: u16, now: Tau)
     }
 }
 
-// A changed state is marked.
+// Marks a state if it changed.
 fn mark(marks: &mut Vec<Mark>, now: Tau, from: LinkState, to: LinkState, by: Option<(WrMsg, Tau)>)
     requires { vec_len marks.old + 1 ≤ vec_capacity marks.old }
     ensures items { marks.new.items ≡ marks.old.items ++ mark_of now from to by }
@@ -82,7 +82,7 @@ fn mark(marks: &mut Vec<Mark>, now: Tau, from: LinkState, to: LinkState, by: Opt
     }
 }
 
-// A node's step is told to the end that one of its ports is.
+// Reports a node's step to the end of one of its ports.
 fn tell_end(end: &mut EndState, port: u16, now: Tau, news: &News, outs: &[Output])
     requires few { length (frames_at port outs.now) ≤ 4 }
     requires room { HasEndRoom 1 end.old }
@@ -95,7 +95,7 @@ fn tell_end(end: &mut EndState, port: u16, now: Tau, news: &News, outs: &[Output
     mark(&mut end.marks, now, from, to, news.by);
 }
 
-// The same, where the end is the node's.
+// The same, if the end belongs to the node.
 fn tell_where(end: &mut EndState, is_its: bool, port: u16, now: Tau, news: &News, outs: &[Output])
     requires few { length (frames_at port outs.now) ≤ 4 }
     requires room { HasEndRoom 1 end.old }
@@ -107,7 +107,7 @@ fn tell_where(end: &mut EndState, is_its: bool, port: u16, now: Tau, news: &News
     }
 }
 
-// A node's step is told to the ends of a link that are the node's.
+// Reports a node's step to the ends of a link that belong to the node.
 fn tell_both(span: &mut Span, link: &LinkCfg, now: Tau, news: &News, outs: &[Output])
     requires few { SendsFew outs.now }
     requires room { HasSpanRoom 1 span.old }
@@ -132,7 +132,7 @@ fn tell_both(span: &mut Span, link: &LinkCfg, now: Tau, news: &News, outs: &[Out
     );
 }
 
-// The same; a link of which no end is the node's is left at once.
+// The same, but quick for a link none of whose ends belongs to the node.
 fn tell_link(span: &mut Span, link: &LinkCfg, now: Tau, news: &News, outs: &[Output])
     requires few { SendsFew outs.now }
     requires room { HasSpanRoom 1 span.old }
@@ -144,7 +144,7 @@ fn tell_link(span: &mut Span, link: &LinkCfg, now: Tau, news: &News, outs: &[Out
     }
 }
 
-// The same, of the link of a number.
+// The same for the link with this number.
 fn tell_number(span: &mut Span, cfg: &NetCfg, k: usize, now: Tau, news: &News, outs: &[Output])
     requires few { SendsFew outs.now }
     requires room { HasSpanRoom 1 span.old }
@@ -157,7 +157,7 @@ fn tell_number(span: &mut Span, cfg: &NetCfg, k: usize, now: Tau, news: &News, o
     }
 }
 
-/// A node's step is told to the ends of all links that are the node's.
+/// Reports a node's step to the ends of all links that belong to the node.
 pub fn tell(spans: &mut Vec<Span>, cfg: &NetCfg, now: Tau, news: &News, outs: &[Output])
     requires few { SendsFew outs.now }
     requires room { Each (λ k. HasSpanRoom 1) spans.old.items }

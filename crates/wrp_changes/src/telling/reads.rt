@@ -1,4 +1,4 @@
-//! What is read of a node's step.
+//! What is read from a node's step.
 ghost use Rattle.std.specs.Prelude.{◌≡◌, ℕ, true};
 ghost use Rattle.wrp_link.specs.Table.{is_same};
 ghost use Rattle.wrp_node.specs.States.{state_in};
@@ -7,7 +7,7 @@ ghost use Rattle.wrp_changes.specs.PlantTold.{SameRow, cycles_in, sends};
 use wrp_base::LinkState;
 use wrp_node::{Output, PortState};
 
-/// The periods by which the clock is stepped, 0 where it is not.
+/// The periods by which the clock is stepped; 0 if it is not stepped.
 pub fn cycles_in(outs: &[Output]) -> i64
     ensures { result ≡ cycles_in outs.now }
 {
@@ -31,7 +31,7 @@ pub fn sends(outs: &[Output]) -> bool
     false
 }
 
-/// The link state of a port among these, IDLE where it is not among them.
+/// The link state of a port among these; IDLE if the port is not among them.
 pub fn state_in(ports: &[PortState], port: u16) -> LinkState
     ensures { result ≡ state_in port ports.now }
 {
@@ -43,14 +43,14 @@ pub fn state_in(ports: &[PortState], port: u16) -> LinkState
     LinkState::Idle
 }
 
-/// The two states are one.
+/// Whether the two states are the same.
 pub fn is_same(from: LinkState, to: LinkState) -> bool
     ensures { result ≡ is_same from to }
 {
     from == to
 }
 
-// Whether two rows say the same.
+// Whether two rows have the same content.
 fn is_same_row(before: PortState, after: PortState) -> bool
     ensures { result ≡ true → SameRow before after }
 {

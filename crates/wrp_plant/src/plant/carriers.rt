@@ -1,4 +1,4 @@
-//! Which nodes are up, and which links have their carriers.
+//! Which nodes are up, and which links have their carrier.
 ghost use Rattle.std.specs.Prelude.{◌≡◌, ◌&&◌, ◌<◌, length};
 ghost use Rattle.wrp_plant.specs.Plant.{FitsPlant, PlantIs};
 ghost use Rattle.wrp_course.specs.Setting.{Setting, link_of};

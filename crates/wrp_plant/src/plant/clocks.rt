@@ -9,7 +9,7 @@ use super::Plant;
 use wrp_base::{Tau, difference, sum};
 
 impl Plant {
-    /// The offset of a node's clock.
+    /// The offset of a node's clock from true time, in tau.
     pub fn off(&self, n: u8) -> Tau
         requires fits { FitsPlant self.now }
         requires node { n < length self.now.net.cfg.nodes.items }
@@ -19,7 +19,7 @@ impl Plant {
         self.clock(n).off
     }
 
-    /// How far the clock of the lower of two nodes is ahead of the upper one's.
+    /// How far the lower node's clock is ahead of the upper node's, in tau.
     pub fn apart(&self, lower: u8, upper: u8) -> Tau
         requires fits { FitsPlant self.now }
         requires lower { lower < length self.now.net.cfg.nodes.items }
@@ -33,7 +33,7 @@ impl Plant {
         difference(below, above)
     }
 
-    /// What a node's clock reads.
+    /// What a node's clock reads, in tau.
     pub fn reading(&self, n: u8) -> Tau
         requires fits { FitsPlant self.now }
         requires node { n < length self.now.net.cfg.nodes.items }

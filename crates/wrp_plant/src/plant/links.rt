@@ -1,4 +1,4 @@
-//! The links: their ends, the modules that are listed there, and which stands above a node.
+//! The links: their ends, the modules listed there, and which link is above a node.
 ghost use Rattle.std.specs.Prelude.{◌≡◌, ◌==◌, ◌<◌, length, true, Some, IfSome};
 ghost use Rattle.std.specs.List.{position};
 ghost use Rattle.wrp_base.specs.Clock.{steps_of_period};
@@ -34,7 +34,8 @@ impl Plant {
         port_of(self.link_cfg(place.link), place.role)
     }
 
-    /// The numbers of a module at an end of a link. `None` exactly where it is not listed there.
+    /// The numbers of a module for the wavelengths at an end of a link; the delays are in tau. `None` if
+    /// the database has no entry for it there.
     pub fn listed_at(&self, place: Place, name: &str) -> Option<Module>
         requires fits { FitsPlant self.now }
         requires link { place.link < length self.now.net.cfg.links.items }
@@ -48,7 +49,8 @@ impl Plant {
         self.net.db.module_at(name, tx_nm, rx_nm)
     }
 
-    /// The link above a node. `None` exactly for the grandmaster. The node's own place is looked at first.
+    /// The number of the link above a node. `None` only for the grandmaster. The node's own place is tried
+    /// first.
     pub fn above(&self, n: u8) -> Option<u8>
         requires { FitsPlant self.now }
         ensures value { (s : Setting) (w : WorldAt) → PlantIs s w self.now → result ≡ above s n }
@@ -63,7 +65,7 @@ impl Plant {
     }
 }
 
-// The link above a node. `None` exactly for the grandmaster.
+// The number of the link above a node. `None` only for the grandmaster.
 fn link_above(cfg: &NetCfg, n: u8) -> Option<u8>
     ensures value { result ≡ position (λ link. link.lower == n) cfg.now.links.items }
     ensures within { IfSome result (λ k. k < length cfg.now.links.items) }

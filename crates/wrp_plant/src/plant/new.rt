@@ -26,7 +26,8 @@ use wrp_network::{LinkCfg, Name, NetCfg};
 const SECOND: i128 = 65_536_000_000_000_000;
 
 impl Plant {
-    /// All nodes are down, and all links cut; true time is the epoch.
+    /// The plant before any event: all nodes are down, all links are cut, and true time is the
+    /// epoch. `AllocError` if there is not enough memory; then there is no plant.
     #[inline(never)]
     pub fn new(alloc: Global, net: Network) -> Result<Plant, AllocError>
         requires { IsAccepted net.cfg net.db }
@@ -52,7 +53,7 @@ impl Plant {
     }
 }
 
-/// The first moment of a world, in tau: the epoch of its network, which is in seconds.
+/// The first moment of a world, in tau: the epoch of its network, which is given in seconds.
 pub fn start_of(cfg: &NetCfg) -> Tau
     requires { HasRanges cfg.now }
     ensures value { result ≡ cfg.now.epoch *ℤ second }
@@ -61,7 +62,7 @@ pub fn start_of(cfg: &NetCfg) -> Tau
     product(i128::from(cfg.epoch), SECOND)
 }
 
-// From when on a frame that was put out is young at the epoch.
+// The horizon at the epoch: a frame that was put out at this time or later is young.
 fn horizon_of(cfg: &NetCfg, start: Tau) -> Tau
     requires ranges { HasRanges cfg.now }
     requires start { IsTimeBy 0 start }
@@ -71,7 +72,7 @@ fn horizon_of(cfg: &NetCfg, start: Tau) -> Tau
     difference(start, life(cfg))
 }
 
-// So many clocks.
+// This many new clocks. `AllocError` if there is not enough memory.
 fn new_clocks(alloc: Global, count: usize, start: Tau) -> Result<Vec<ClockState>, AllocError>
     ensures count { IfOk result (λ clocks. length clocks.items ≡ count) }
     ensures each { IfOk result (λ clocks. Each (λ n clock. clock ≡ new_clock start) clocks.items) }
@@ -89,7 +90,7 @@ fn new_clocks(alloc: Global, count: usize, start: Tau) -> Result<Vec<ClockState>
     Ok(clocks)
 }
 
-// The links.
+// The new links. `AllocError` if there is not enough memory.
 fn new_spans(alloc: Global, db: &CalDb, links: &[LinkCfg]) -> Result<Vec<Span>, AllocError>
     ensures count { IfOk result (λ spans. length spans.items ≡ length links.now) }
     ensures each { IfOk result (λ spans. Each (IsSpanOf db.now links.now) spans.items) }
@@ -101,7 +102,7 @@ fn new_spans(alloc: Global, db: &CalDb, links: &[LinkCfg]) -> Result<Vec<Span>, 
     Ok(spans)
 }
 
-// A link.
+// One new link.
 fn new_span(alloc: Global, db: &CalDb, link: &LinkCfg) -> Span
     ensures { IsNewSpan db.now link.now result }
 {
@@ -118,7 +119,7 @@ fn new_span(alloc: Global, db: &CalDb, link: &LinkCfg) -> Span
     }
 }
 
-// An end with this module in place.
+// An end with this module installed.
 fn new_end(alloc: Global, name: &Name, entry: Option<Module>) -> EndState
     ensures { IsNewEnd name.now.bytes entry result }
 {
@@ -149,7 +150,7 @@ fn rx_of(entry: Option<Module>) -> u64
     }
 }
 
-// The same name.
+// A copy of the name.
 fn copied(name: &Name) -> Name
     ensures { result.bytes ≡ name.now.bytes }
 {

@@ -1,4 +1,4 @@
-//! The parts of a plant, and the sizes of their numbers.
+//! The parts of a plant, and how large their numbers are.
 ghost use Rattle.std.specs.Prelude.{◌≡◌, ◌<◌, ◌≤◌, length, slice_get, Some, IfSome, option_map};
 ghost use Rattle.wrp_network.specs.Network.{HasRanges, HasNodeRanges, HasLinkRanges, node_count};
 ghost use Rattle.wrp_plant.specs.Plant.{EndIs, FitsDeparted, FitsPlant, FitsSpan, PlantIs};
@@ -15,7 +15,7 @@ use wrp_flights::Departed;
 use wrp_network::{LinkCfg, NetCfg, NodeCfg};
 
 impl Plant {
-    /// The numbers of the network.
+    /// The network's configuration.
     pub fn cfg(&self) -> &NetCfg
         requires { FitsPlant self.now }
         ensures value { result.now ≡ self.now.net.cfg }
@@ -24,7 +24,7 @@ impl Plant {
         &self.net.cfg
     }
 
-    /// True time.
+    /// True time, in tau.
     pub fn now(&self) -> Tau
         requires { FitsPlant self.now }
         ensures value { result ≡ self.now.time }
@@ -33,8 +33,8 @@ impl Plant {
         self.time
     }
 
-    // The clock of a node, the state of a link, and what the network has of a node and of a link: as they
-    // are kept.
+    // The clock of a node, the state of a link, and the network's entries for a node and for a link, just
+    // as they are kept.
     fn clock_at(&self, n: u8) -> &ClockState
         requires { n < length self.now.clocks.items }
         ensures { slice_get self.now.clocks.items n ≡ Some result.now }
@@ -75,7 +75,7 @@ impl Plant {
         self.clock_at(n)
     }
 
-    /// A link.
+    /// The state of a link.
     pub fn span(&self, k: u8) -> &Span
         requires fits { FitsPlant self.now }
         requires link { k < length self.now.net.cfg.links.items }
@@ -87,7 +87,7 @@ impl Plant {
         self.span_at(k)
     }
 
-    /// What the network has of a node.
+    /// The network's entry for a node.
     pub fn node_cfg(&self, n: u8) -> &NodeCfg
         requires fits { FitsPlant self.now }
         requires node { n < length self.now.net.cfg.nodes.items }
@@ -97,7 +97,7 @@ impl Plant {
         self.node_cfg_at(n)
     }
 
-    /// What the network has of a link.
+    /// The network's entry for a link.
     pub fn link_cfg(&self, k: u8) -> &LinkCfg
         requires fits { FitsPlant self.now }
         requires link { k < length self.now.net.cfg.links.items }
@@ -134,7 +134,8 @@ impl Plant {
         }
     }
 
-    /// A frame that departed. `None` exactly where the number was not given, or the frame is kept no more.
+    /// A frame that departed, by its number. `None` if the number was never given, or the frame is no
+    /// longer kept.
     pub fn frame(&self, number: u32) -> Option<&Departed>
         requires { FitsPlant self.now }
         ensures value { option_map (λ f. f.now) result ≡ at number self.now.frames.kept }

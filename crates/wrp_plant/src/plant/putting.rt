@@ -19,7 +19,7 @@ fn is_at(moment: Tau, now: Tau) -> bool
     moment == now
 }
 
-// Whether there is a moment, and it is now.
+// Whether there is a time, and it is now.
 fn is_one_at(at: Option<Tau>, now: Tau) -> bool
     ensures { result ≡ option_map_or (λ t. int_eq t now) at false }
 {
@@ -35,28 +35,28 @@ fn either(a: bool, b: bool) -> bool
     a || b
 }
 
-// Whether there is neither of two moments.
+// Whether both times are missing.
 fn neither(a: Option<Tau>, b: Option<Tau>) -> bool
     ensures { result ≡ true → (a ≡ None) × (b ≡ None) }
 {
     a.is_none() && b.is_none()
 }
 
-// The place of a port by nodes and then ascending.
+// A port's place in the order by node, then by port number.
 fn rank(port: (u8, u16)) -> u32
     ensures { result ≡ rank port }
 {
     32 * u32::from(port.0) + u32::from(port.1)
 }
 
-// The sooner of two ports.
+// The port that comes first in this order.
 fn sooner_of(a: (u8, u16), b: (u8, u16)) -> (u8, u16)
     ensures { result ≡ (if nat_lt (rank a) (rank b) then a else b) }
 {
     if rank(a) < rank(b) { a } else { b }
 }
 
-// The same, where there is a first one.
+// The same, if there is a first one; otherwise the port itself.
 fn sooner(first: Option<(u8, u16)>, port: (u8, u16)) -> (u8, u16)
     ensures { result ≡ sooner first port }
 {
@@ -92,7 +92,7 @@ impl Plant {
         neither(upper, lower)
     }
 
-    // The same, at one end of a link or the other.
+    // Whether, at one end of a link or the other, the oldest waiting frame was put out now.
     fn puts_out_at_ends(&self, k: u8) -> bool
         requires fits { FitsPlant self.now }
         requires link { k < length self.now.net.cfg.links.items }
@@ -110,8 +110,8 @@ impl Plant {
         either(upper, lower)
     }
 
-    /// Whether a frame that was put out now is the oldest that waits at an end of a link; a link at which no frame
-    /// waits is left at once.
+    /// Whether, at an end of a link, the oldest waiting frame was put out now. This is quick for a link with no
+    /// waiting frames.
     pub fn puts_out_over(&self, k: u8) -> bool
         requires fits { FitsPlant self.now }
         requires link { k < length self.now.net.cfg.links.items }
@@ -125,7 +125,7 @@ impl Plant {
         }
     }
 
-    // Whether a frame that was put out now is the oldest that waits at an end of a link: all are asked.
+    // Whether, at an end of any link, the oldest waiting frame was put out now. This looks at every link.
     fn puts_out_anywhere(&self) -> bool
         requires { FitsPlant self.now }
         ensures { (s : Setting) (w : WorldAt) → PlantIs s w self.now → result ≡ puts_out s w }
@@ -139,7 +139,7 @@ impl Plant {
         false
     }
 
-    /// Whether a frame that was put out now is the oldest that waits at an end of a link.
+    /// Whether, at an end of any link, the oldest waiting frame was put out now.
     pub fn puts_out_now(&self) -> bool
         requires { FitsPlant self.now }
         ensures { (s : Setting) (w : WorldAt) → PlantIs s w self.now → result ≡ puts_out s w }
@@ -151,7 +151,7 @@ impl Plant {
         }
     }
 
-    // The sooner of a port and that at an end, where the oldest frame that waits there was put out now.
+    // The earlier of this port and the port at an end, if the oldest frame that waits there was put out now.
     fn with_end(&self, first: Option<(u8, u16)>, place: Place) -> Option<(u8, u16)>
         requires fits { FitsPlant self.now }
         requires link { place.link < length self.now.net.cfg.links.items }
@@ -166,7 +166,7 @@ impl Plant {
         }
     }
 
-    // The same, at both ends of a link.
+    // The same for both ends of a link.
     fn with_link(&self, first: Option<(u8, u16)>, k: u8) -> Option<(u8, u16)>
         requires fits { FitsPlant self.now }
         requires link { k < length self.now.net.cfg.links.items }
@@ -189,8 +189,8 @@ impl Plant {
         )
     }
 
-    /// The first port, by nodes in file order and then ascending, at which the oldest frame that waits was put
-    /// out now. `None` exactly where there is none.
+    /// The first port, as its node and its port number, at which the oldest waiting frame was put out now. Ports
+    /// are ordered by node in file order, then by number. `None` if there is no such port.
     pub fn first_put_out(&self) -> Option<(u8, u16)>
         requires { FitsPlant self.now }
         ensures { (s : Setting) (w : WorldAt) → PlantIs s w self.now

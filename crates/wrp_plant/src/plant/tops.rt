@@ -1,4 +1,4 @@
-//! Which node is the grandmaster, and which has the link above it at its own place.
+//! Which node is the grandmaster, and which node's link above is at the node's own place.
 ghost use Rattle.std.specs.Prelude.{◌≡◌, ◌==◌, ◌≤◌, ◌-◌, not, true, false, slice_get};
 ghost use Rattle.std.specs.Option.{is_some, option_map_or};
 ghost use Rattle.wrp_network.specs.Network.{link_above as link_over};
@@ -10,7 +10,7 @@ use super::Plant;
 use wrp_config::link_above;
 use wrp_network::NetCfg;
 
-// Whether the link of a number stands above a node.
+// Whether the link with this number is above a node.
 fn is_above(cfg: &NetCfg, k: usize, n: u8) -> bool
     ensures { result ≡ option_map_or (λ link. link.lower == n) (slice_get cfg.now.links.items k) false }
 {
@@ -20,8 +20,8 @@ fn is_above(cfg: &NetCfg, k: usize, n: u8) -> bool
     }
 }
 
-/// Whether the link above a node has the number one below the node's: so it is where links are in the order of
-/// their lower nodes and the first node is the grandmaster.
+/// Whether the link above a node has the number just below the node's own. This is true of every node but the
+/// grandmaster if links are in the order of their lower nodes and the first node is the grandmaster.
 pub fn has_own_link(cfg: &NetCfg, n: u8) -> bool
     ensures above { result ≡ true → is_some (link_over cfg.now n) ≡ true }
     ensures some { result ≡ true → 1 ≤ n }
@@ -35,7 +35,7 @@ pub fn has_own_link(cfg: &NetCfg, n: u8) -> bool
 }
 
 impl Plant {
-    /// Whether no link stands above a node: it is the grandmaster.
+    /// Whether no link is above a node: then it is the grandmaster.
     pub fn is_top(&self, n: u8) -> bool
         requires { FitsPlant self.now }
         ensures { (s : Setting) (w : WorldAt) → PlantIs s w self.now

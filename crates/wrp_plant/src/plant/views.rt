@@ -1,4 +1,4 @@
-//! What is asked of a plant.
+//! Questions about a plant.
 ghost use Rattle.std.specs.Prelude.{◌≡◌, ◌<◌, length, option_map, slice_get, IfSome};
 ghost use Rattle.wrp_base.specs.Clock.{steps_of_period};
 ghost use Rattle.wrp_base.specs.Link.{other_of};
@@ -27,7 +27,8 @@ impl Plant {
         self.span(link).fibre.joined
     }
 
-    /// When a node may tick next: the true times dmin and dmax after its last tick, or after it came up.
+    /// When a node may tick next: the first and the last true time, in tau. They are the shortest and the
+    /// longest tick after its last tick, or after it came up. `None` if the node is down.
     pub fn tick_due(&self, n: u8) -> Option<(Tau, Tau)>
         requires fits { FitsPlant self.now }
         requires node { n < length self.now.net.cfg.nodes.items }
@@ -46,7 +47,7 @@ impl Plant {
         }
     }
 
-    /// The history of a port's link, the oldest mark first.
+    /// The history of a port's link, oldest mark first. Empty if the port is not an end of a link.
     pub fn history(&self, n: u8, port: u16) -> &[Mark]
         requires { FitsPlant self.now }
         ensures { (s : Setting) (w : WorldAt) → PlantIs s w self.now
@@ -58,8 +59,8 @@ impl Plant {
         }
     }
 
-    /// The true time at which the oldest frame that waits at a port was put out. `None` exactly where
-    /// none waits.
+    /// The true time at which the oldest frame that waits at a port was put out, in tau. `None` if no frame
+    /// waits, or the port is not an end of a link.
     pub fn waiting(&self, n: u8, port: u16) -> Option<Tau>
         requires { FitsPlant self.now }
         ensures { (s : Setting) (w : WorldAt) → PlantIs s w self.now → result ≡ view.waiting_of s w n port }
@@ -70,7 +71,8 @@ impl Plant {
         }
     }
 
-    /// When the oldest frame that waits at an end was put out. `None` exactly where none waits.
+    /// The true time at which the oldest frame that waits at an end was put out, in tau. `None` if no frame
+    /// waits there.
     pub fn oldest_at(&self, place: Place) -> Option<Tau>
         requires fits { FitsPlant self.now }
         requires link { place.link < length self.now.net.cfg.links.items }
@@ -82,8 +84,8 @@ impl Plant {
         first_put_out(span.end(place.role).waiting.as_slice())
     }
 
-    /// The frame on a fibre that is due first, with that time; the least number among equals. `None`
-    /// exactly where no frame is on a fibre.
+    /// The frame on a fibre that is due first, as its number and the true time at which it is due, in tau.
+    /// The lowest number wins if two are due at once. `None` if no frame is on a fibre.
     pub fn next_arrival(&self) -> Option<(u32, Tau)>
         requires { FitsPlant self.now }
         ensures { (s : Setting) (w : WorldAt) → PlantIs s w self.now → view.IsNextArrival w result }
@@ -91,7 +93,7 @@ impl Plant {
         self.frames.next_due()
     }
 
-    // The frame of a number, where it is kept.
+    // The frame of this number, if it is kept.
     fn kept_frame(&self, number: u32) -> Option<&Departed>
         ensures { (s : Setting) (w : WorldAt) → PlantIs s w self.now
             → MaybeIs DepartedIs (view.kept_frame s w number) (option_map (λ f. f.now) result) }
@@ -106,7 +108,7 @@ impl Plant {
         self.frames.kept()
     }
 
-    /// The octets of a frame. `None` exactly where none of this number is kept.
+    /// The octets of a frame. `None` if no frame of this number is kept.
     pub fn octets(&self, number: u32) -> Option<&[u8]>
         ensures { (s : Setting) (w : WorldAt) → PlantIs s w self.now
             → option_map (λ octets. octets.now) result ≡ view.octets_at s w number }
@@ -117,7 +119,7 @@ impl Plant {
         }
     }
 
-    /// The node and the port that sent a frame. `None` exactly where none of this number is kept.
+    /// The node and the number of the port that sent a frame. `None` if no frame of this number is kept.
     pub fn sender(&self, number: u32) -> Option<(u8, u16)>
         ensures { (s : Setting) (w : WorldAt) → PlantIs s w self.now
             → result ≡ option_map (λ end. (end.node, end.port)) (view.sender_of s w number) }
@@ -128,7 +130,7 @@ impl Plant {
         }
     }
 
-    /// The end that a frame comes to. `None` exactly where none of this number is kept.
+    /// The end at which a frame arrives. `None` if no frame of this number is kept.
     pub fn comes_to(&self, number: u32) -> Option<Place>
         requires { FitsPlant self.now }
         ensures value { (s : Setting) (w : WorldAt) → PlantIs s w self.now
@@ -141,8 +143,8 @@ impl Plant {
         }
     }
 
-    /// The numbers of the module that the network names at an end of a link. `None` exactly where it is not
-    /// listed there.
+    /// The numbers of the module that the network names at an end of a link; the delays are in tau. `None`
+    /// if the database has no entry for it there.
     pub fn first_entry(&self, place: Place) -> Option<Module>
         requires fits { FitsPlant self.now }
         requires link { place.link < length self.now.net.cfg.links.items }
@@ -166,7 +168,7 @@ impl Plant {
     }
 }
 
-// When the first of these was put out.
+// The true time at which the first of these was put out.
 fn first_put_out(waiting: &[PutOut]) -> Option<Tau>
     ensures { result ≡ option_map (λ out. out.at) (slice_get waiting.now 0) }
 {
@@ -176,7 +178,7 @@ fn first_put_out(waiting: &[PutOut]) -> Option<Tau>
     }
 }
 
-// The end that a frame comes to.
+// The end at which a frame arrives.
 fn way_of(frame: &Departed) -> Place
     ensures { result ≡ record { link = frame.now.link; role = other_of frame.now.by } }
 {
@@ -187,7 +189,7 @@ fn way_of(frame: &Departed) -> Place
     from.across()
 }
 
-// The name of the module that the network has at this end of a link.
+// The name of the module that the network names at this end of a link.
 fn named_at(link: &LinkCfg, role: Role) -> &str
     ensures { result.now ≡ named_at role link.now }
 {

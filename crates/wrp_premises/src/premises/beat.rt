@@ -1,4 +1,4 @@
-//! What the beat bits of a sample may be: premise 9.
+//! Which beat bits a sample may have: premise 9.
 ghost use Rattle.std.specs.Prelude.{◌≡◌, ◌<◌, ◌≤◌, ◌==◌, ◌&&◌, ◌+ℤ◌, ◌-ℤ◌, pos, unsigned_abs, not, map, [], ◌∷◌};
 ghost use Rattle.std.specs.Int.Signed.{le_z, lt_z};
 ghost use Rattle.wrp_base.specs.Clock.{steps_of_period};
@@ -11,7 +11,7 @@ ghost use Rattle.wrp_course.specs.Setting.{from_on};
 use wrp_base::{Clock, Tau};
 use wrp_course::Breach;
 
-// The detector step in which a true phase lies.
+// The detector step of a true phase.
 fn true_step(clock: Clock, phase: Tau) -> u16
     ensures value { result ≡ true_step clock phase }
     ensures most { result < steps_of_period }
@@ -20,7 +20,7 @@ fn true_step(clock: Clock, phase: Tau) -> u16
     (place / clock.step().unsigned_abs()) as u16
 }
 
-// How many steps that is past the base, from -8192 to 8191.
+// How many steps this is past the base, from -8192 to 8191.
 fn steps_past(step: u16, base: u16) -> i32
     requires step { step < steps_of_period }
     requires base { base < steps_of_period }
@@ -54,14 +54,14 @@ fn first_sure(steps: i32, beat: u16) -> i32
     steps + i32::from(beat)
 }
 
-// Whether a 1 stands too early.
+// Whether a 1 comes too early.
 fn is_early(first: i32, bit: u64, i: u8) -> bool
     ensures { result ≡ (lt_z (pos i) first && not (bit == 0)) }
 {
     i32::from(i) < first && bit != 0
 }
 
-// Whether a 0 stands too late.
+// Whether a 0 comes too late.
 fn is_late(sure: i32, bit: u64, i: u8) -> bool
     ensures { result ≡ (le_z sure (pos i) && not (bit == 1)) }
 {
@@ -78,7 +78,7 @@ fn is_wrong(steps: i32, beat: u16, bits: u64, i: u8) -> bool
     is_early(first_one(steps, beat), bit, i) || is_late(first_sure(steps, beat), bit, i)
 }
 
-// One beat bit.
+// Checks one beat bit.
 fn bit_kept(steps: i32, beat: u16, bits: u64, i: u8) -> Option<Breach>
     requires steps { unsigned_abs steps ≤ 8192 }
     requires i { i < 64 }
@@ -95,7 +95,7 @@ fn bit_kept(steps: i32, beat: u16, bits: u64, i: u8) -> Option<Breach>
     }
 }
 
-// No beat bit is wrong, where the true step is so far past the base.
+// Checks that no beat bit is wrong if the true step is this many steps past the base.
 fn bits_kept(steps: i32, beat: u16, bits: u64) -> Option<Breach>
     requires { unsigned_abs steps ≤ 8192 }
     ensures { result ≡ told_of (map (premise.bit_check steps beat bits) (from_on 64 0)) }
@@ -108,7 +108,9 @@ fn bits_kept(steps: i32, beat: u16, bits: u64) -> Option<Breach>
     None
 }
 
-/// No beat bit of a sample is wrong, where the true phase is this.
+/// Premise 9: no beat bit of a sample is wrong if the true phase is `phase`, in tau. `base` is
+/// below 16,384; `base` and `beat` are in detector steps. `None` if it holds; otherwise the number
+/// of the first wrong bit, and the distance of the true step from the base.
 pub fn beat_kept(clock: Clock, beat: u16, base: u16, bits: u64, phase: Tau) -> Option<Breach>
     requires { base < steps_of_period }
     ensures { result ≡ told_of (premise.beat_by clock beat base bits phase) }

@@ -10,7 +10,7 @@ use wrp_base::{Tau, difference, product, sum};
 use wrp_course::{Breach, FibreState};
 use wrp_network::LinkCfg;
 
-// The part of both ways that the way down takes, times `2^40`.
+// The share of the delay down in both delays, times `2^40`.
 fn share(kappa: i64, both: Tau) -> Tau
     requires kappa { unsigned_abs kappa ≤ 2 ^ 38 }
     requires both { unsigned_abs both ≤ 2 ^ 61 }
@@ -20,7 +20,7 @@ fn share(kappa: i64, both: Tau) -> Tau
     product(sum(1 << 39, i128::from(kappa)), both)
 }
 
-// How far the way down is from its share, times `2^40`.
+// How far the delay down is from its share, times `2^40`.
 fn asymmetry(kappa: i64, ms: Tau, sm: Tau) -> Tau
     requires kappa { unsigned_abs kappa ≤ 2 ^ 38 }
     requires ms { unsigned_abs ms ≤ 2 ^ 60 }
@@ -31,7 +31,7 @@ fn asymmetry(kappa: i64, ms: Tau, sm: Tau) -> Tau
     difference(product(1 << 40, ms), share(kappa, sum(ms, sm)))
 }
 
-// How far the way down may be from its share, times `2^40`.
+// How far the delay down may be from its share, times `2^40`.
 fn slack(link: &LinkCfg) -> Tau
     requires { HasLinkRanges link.now }
     ensures { result ≡ pos (2 ^ 40 * link.now.e_asym) }
@@ -39,7 +39,8 @@ fn slack(link: &LinkCfg) -> Tau
     ((1 << 40) * u128::from(link.e_asym)) as i128
 }
 
-// The delays of a joined link; `down` and `up` have both ports' own with those of the fibre.
+// Checks the delays of a joined link. `down` and `up` are the fibre's delays plus the delays of both
+// ports.
 fn joined_kept(most: Tau, fibre: &FibreState, down: Tau, up: Tau, link: &LinkCfg) -> Option<Breach>
     requires most { unsigned_abs most ≤ 2 ^ 60 }
     requires ms { IsDelay fibre.now.ms }
@@ -69,8 +70,10 @@ fn joined_kept(most: Tau, fibre: &FibreState, down: Tau, up: Tau, link: &LinkCfg
     )
 }
 
-/// The delays of a link, if it is joined; `down` and `up` have both ports' own with those of the fibre,
-/// and `most` is the greatest that they may be.
+/// Premise 5: the delays of a link, if it is joined. `down` and `up` are the fibre's delays plus the
+/// delays of both ports, and `most` is the greatest value for them; all are in tau. `None` if it holds;
+/// otherwise the first comparison that fails: a delay of the fibre is below 0, `down` or `up` is above
+/// `most` (in tau), or the asymmetry is too large (in tau times `2^40`).
 pub fn fibre_kept(
     most: Tau,
     fibre: &FibreState,

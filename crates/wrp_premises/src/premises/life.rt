@@ -7,7 +7,8 @@ use crate::checks::at_most;
 use wrp_base::{Tau, difference};
 use wrp_course::Breach;
 
-/// A frame that was put out at the true time `sent` is not older than `life`.
+/// Premise 10: a frame that was put out at the true time `sent` is not older than `life`. All times
+/// are in tau. `None` if it holds; otherwise its age against `life`.
 pub fn young_enough(life: Tau, now: Tau, sent: Tau) -> Option<Breach>
     requires now { IsTime now }
     requires sent { IsTime sent }

@@ -7,7 +7,7 @@ use crate::checks::{at_most, size};
 use wrp_base::{Module, difference};
 use wrp_course::{Breach, Swap};
 
-// A true delay is within an error of its entry.
+// Checks that a true delay is within the error of its entry.
 fn delay_kept(delay: u64, entry: u64, err: u64) -> Option<Breach>
     ensures { result ≡ told_of (at_most 6 (size_of (pos delay -ℤ pos entry)) (pos err) ∷ []) }
 {
@@ -18,8 +18,9 @@ fn delay_kept(delay: u64, entry: u64, err: u64) -> Option<Breach>
     )
 }
 
-/// The true delays of a module are within the error of its entry, if it has one, the transmission told
-/// first.
+/// Premise 6: the true delays of a module are within the error of its entry, in tau. The transmission
+/// delay is checked first. `None` if it holds, or there is no entry; otherwise the first difference
+/// that is too large, against the error.
 pub fn module_kept(swap: &Swap, entry: Option<Module>) -> Option<Breach>
     ensures { result ≡ told_of (premise.module_checks swap.now entry) }
 {
@@ -29,7 +30,7 @@ pub fn module_kept(swap: &Swap, entry: Option<Module>) -> Option<Breach>
     }
 }
 
-// Both true delays of a listed module.
+// Checks both true delays of a listed module.
 fn both_kept(swap: &Swap, entry: &Module) -> Option<Breach>
     ensures { result ≡ told_of (premise.listed_checks swap.now entry.now) }
 {

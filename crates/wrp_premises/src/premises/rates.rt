@@ -1,4 +1,4 @@
-//! How fast clocks and fibres may move: premises 3 and 4.
+//! How fast clocks and fibres may change: premises 3 and 4.
 ghost use Rattle.std.specs.Prelude.{◌≡◌, ◌*◌, ◌≤◌, pos, unsigned_abs, not, [], ◌∷◌, flat_map, IfSome};
 ghost use Rattle.wrp_course.specs.Checks.{told_of, only_where, size_of};
 ghost use Rattle.wrp_course.specs.Checks as spec;
@@ -9,20 +9,20 @@ use crate::checks::{at_most, size};
 use wrp_base::Tau;
 use wrp_course::Breach;
 
-/// Rates are in `10^-12`.
+/// Rates are in parts of `10^-12`.
 const PARTS: u128 = 1_000_000_000_000;
 
-/// The greatest rate of a fibre's one-way delay.
+/// The greatest rate at which a fibre's one-way delay may change.
 const FIBRE_RATE: u64 = 2;
 
-// A move as it is compared.
+// A change as it is compared: times `10^12`.
 fn scaled(by: i64) -> Tau
     ensures { result ≡ pos (unsigned_abs by * 1_000_000_000_000) }
 {
     (u128::from(by.unsigned_abs()) * PARTS) as i128
 }
 
-// How far a rate leads in a time, as it is compared.
+// The change that a rate allows in a time, as it is compared.
 fn led(rate: u64, dt: i64) -> Tau
     requires { rate ≤ 1_000_000_000 }
     ensures { result ≡ pos (rate * unsigned_abs dt) }
@@ -30,7 +30,7 @@ fn led(rate: u64, dt: i64) -> Tau
     (u128::from(rate) * u128::from(dt.unsigned_abs())) as i128
 }
 
-// A move in a time keeps a rate.
+// Checks that a change in a time keeps within a rate.
 fn moves_at(number: u8, by: i64, dt: i64, rate: u64) -> Option<Breach>
     requires { rate ≤ 1_000_000_000 }
     ensures { result ≡ told_of (premise.moves_at number by dt rate ∷ []) }
@@ -38,7 +38,9 @@ fn moves_at(number: u8, by: i64, dt: i64, rate: u64) -> Option<Breach>
     at_most(number, scaled(by), led(rate, dt))
 }
 
-/// A clock keeps its rate, if it has one to keep.
+/// Premise 3: a clock that drifts by `drift` tau in `dt` tau keeps within its rate, which is in
+/// `10^-12` and at most `10^9`. `None` if it does, or it has no rate to keep; otherwise both sides,
+/// times `10^12`.
 pub fn rate_kept(drift: i64, dt: i64, rate: Option<u64>) -> Option<Breach>
     requires { IfSome rate (λ r. r ≤ 1_000_000_000) }
     ensures { result ≡ told_of (premise.rate_checks drift dt rate) }
@@ -49,7 +51,8 @@ pub fn rate_kept(drift: i64, dt: i64, rate: Option<u64>) -> Option<Breach>
     }
 }
 
-/// The grandmaster comes up with true time.
+/// Premise 3: the grandmaster comes up with true time. `off` is in tau. `None` if it does, or the
+/// node is not the grandmaster; otherwise the size of the offset against 0.
 pub fn true_at_top(is_top: bool, off: Tau) -> Option<Breach>
     requires { IsOff off }
     ensures { result ≡ told_of (only_where is_top (spec.at_most 3 (size_of off) (pos 0)) ∷ []) }
@@ -61,7 +64,7 @@ pub fn true_at_top(is_top: bool, off: Tau) -> Option<Breach>
     }
 }
 
-// The delays of a fibre keep their rate, the way down told first.
+// Checks that the delays of a fibre keep within their rate. The delay down is checked first.
 fn fibre_rate(dt: i64, by: &(i64, i64)) -> Option<Breach>
     ensures { result ≡ told_of (premise.rate_of_fibre dt by.now) }
 {
@@ -71,7 +74,9 @@ fn fibre_rate(dt: i64, by: &(i64, i64)) -> Option<Breach>
     }
 }
 
-/// The delays of all fibres keep their rate.
+/// Premise 4: the delays of all fibres keep within their rate if they change by `moves` (down and
+/// up) in `dt`, all in tau. `None` if they do; otherwise both sides of the first that does not,
+/// times `10^12`.
 pub fn fibre_rates(dt: i64, moves: &[(i64, i64)]) -> Option<Breach>
     ensures { result ≡ told_of (flat_map (premise.rate_of_fibre dt) moves.now) }
 {

@@ -1,4 +1,4 @@
-//! What the stamps of a frame may be: premises 7 and 8.
+//! Which stamps a frame may have: premises 7 and 8.
 ghost use Rattle.std.specs.Prelude.{◌≡◌, pos, ◌/◌, ◌^◌, ◌<◌, ◌≤◌, ◌-ℤ◌, ◌+ℤ◌, unsigned_abs, [], ◌∷◌};
 ghost use Rattle.std.specs.Int.{int_rem_euclid};
 ghost use Rattle.wrp_base.specs.Circle.{distance_round};
@@ -16,7 +16,9 @@ use crate::checks::{at_most, size};
 use wrp_base::{Clock, Raw, STEPS_OF_PERIOD, Tau, circ, difference, floor_div, sum};
 use wrp_course::Breach;
 
-/// The stamp of a sending is near what the clock reads.
+/// Premise 7: the stamp of a frame that is sent is within `e_tx` of the node's reading. All are in
+/// tau, the stamp within `2^93` either way. `None` if it holds; otherwise the difference against
+/// `e_tx`.
 pub fn stamp_kept(stamp: Tau, reading: Tau, e_tx: u64) -> Option<Breach>
     requires stamp { unsigned_abs stamp ≤ 2 ^ 93 }
     requires reading { IsReading reading }
@@ -25,7 +27,8 @@ pub fn stamp_kept(stamp: Tau, reading: Tau, e_tx: u64) -> Option<Breach>
     at_most(7, size(difference(stamp, reading)), i128::from(e_tx))
 }
 
-/// A frame arrives when it is due.
+/// Premise 8: a frame arrives at the true time when it is due; both are in tau. `None` if it does;
+/// otherwise the difference against 0.
 pub fn on_time(now: Tau, due: Tau) -> Option<Breach>
     requires now { IsTime now }
     requires due { IsTime due }
@@ -45,7 +48,7 @@ fn quarter(clock: Clock) -> u64
     }
 }
 
-// The place in the period that a tag tells.
+// The place in the period that a tag shows.
 fn told_place(clock: Clock, tag: u16, transition: u16) -> Tau
     requires tag { tag < steps_of_period }
     requires transition { transition < steps_of_period }
@@ -64,7 +67,7 @@ fn true_place(clock: Clock, reading: Tau) -> u64
     reading.rem_euclid(clock.period()).unsigned_abs() as u64
 }
 
-// A tag is near the true place.
+// Checks that a tag is near the true place.
 fn tag_kept(clock: Clock, e_tag: u64, told: Tau, place: u64) -> Option<Breach>
     requires told { unsigned_abs told ≤ 2 ^ 100 }
     ensures { result ≡ told_of (spec.at_most 8 (pos (distance_round clock told (pos place))) (pos e_tag) ∷ []) }
@@ -72,7 +75,7 @@ fn tag_kept(clock: Clock, e_tag: u64, told: Tau, place: u64) -> Option<Breach>
     at_most(8, circ(told, i128::from(place), clock), i128::from(e_tag))
 }
 
-// Whole periods of a reading.
+// The whole periods of a reading.
 fn periods(clock: Clock, reading: Tau) -> Tau
     requires { unsigned_abs reading ≤ 2 ^ 126 }
     ensures value { result ≡ floor_quotient reading (pos (period_of clock)) }
@@ -81,7 +84,7 @@ fn periods(clock: Clock, reading: Tau) -> Tau
     floor_div(reading, clock.period())
 }
 
-// A counter is what it is to be.
+// Checks that a counter has the value that it should have.
 fn counter_kept(counter: u64, due: Tau) -> Option<Breach>
     requires { unsigned_abs due ≤ 2 ^ 100 }
     ensures { result ≡ told_of (premise.counter_check counter due ∷ []) }
@@ -89,7 +92,7 @@ fn counter_kept(counter: u64, due: Tau) -> Option<Breach>
     at_most(8, size(difference(i128::from(counter), due)), 0)
 }
 
-// The rising counter is right where a merge may use it.
+// Checks the rising counter if a merge may use it.
 fn rising_kept(clock: Clock, e_tag: u64, place: u64, reading: Tau, rising: u64) -> Option<Breach>
     requires e_tag { e_tag ≤ 65_535_999 }
     requires place { place < 2 ^ 31 }
@@ -115,7 +118,7 @@ fn half_later(clock: Clock, reading: Tau) -> Tau
     sum(reading, i128::from(half))
 }
 
-// The falling counter is right where a merge may use it.
+// Checks the falling counter if a merge may use it.
 fn falling_kept(clock: Clock, e_tag: u64, place: u64, reading: Tau, falling: u64) -> Option<Breach>
     requires e_tag { e_tag ≤ 65_535_999 }
     requires place { place < 2 ^ 31 }
@@ -132,8 +135,10 @@ fn falling_kept(clock: Clock, e_tag: u64, place: u64, reading: Tau, falling: u64
     }
 }
 
-/// A raw stamp is near what the clock reads: its tag, and each counter where a merge may use it.
-/// `transition` is the receiving module's.
+/// Premise 8: a raw stamp is near the node's reading: its tag, and each counter if a merge may use
+/// it. `transition` is the receiving module's and below 16,384; `reading` and `e_tag` are in tau,
+/// `e_tag` below 65,536,000. `None` if it holds; otherwise the first comparison that fails: the
+/// tag's distance in tau against `e_tag`, or how far a counter is off against 0.
 pub fn raw_kept(
     clock: Clock,
     e_tag: u64,

@@ -9,7 +9,7 @@ use crate::checks::{at_least, at_most};
 use wrp_base::{Tau, difference};
 use wrp_course::{Breach, ClockState};
 
-// At least so long since a tick.
+// Checks that at least this much time has passed since a tick.
 fn late_enough(least: Tau, now: Tau, ticked: Tau) -> Option<Breach>
     requires now { IsTime now }
     requires ticked { IsTime ticked }
@@ -18,7 +18,9 @@ fn late_enough(least: Tau, now: Tau, ticked: Tau) -> Option<Breach>
     at_least(1, difference(now, ticked), least)
 }
 
-/// No tick comes too early: `now` is its true time, and `least` the shortest time from one to the next.
+/// Premise 1: no tick comes too early. `now` is its true time, and `least` the shortest time from one
+/// tick to the next, in tau. `None` if it is late enough, or the node is down; otherwise the time since
+/// the last tick against `least`.
 pub fn tick_early(least: Tau, now: Tau, clock: &ClockState) -> Option<Breach>
     requires least { IsTime least }
     requires now { IsTime now }
@@ -32,7 +34,7 @@ pub fn tick_early(least: Tau, now: Tau, clock: &ClockState) -> Option<Breach>
     }
 }
 
-// At most so long since a tick.
+// Checks that at most this much time has passed since a tick.
 fn soon_enough(most: Tau, after: Tau, ticked: Tau) -> Option<Breach>
     requires after { IsTime after }
     requires ticked { IsTime ticked }
@@ -41,7 +43,7 @@ fn soon_enough(most: Tau, after: Tau, ticked: Tau) -> Option<Breach>
     at_most(2, difference(after, ticked), most)
 }
 
-// No time passes to a tick that is too late, at one clock.
+// Checks that the next tick of one clock is not too late by then.
 fn tick_late(most: Tau, after: Tau, clock: &ClockState) -> Option<Breach>
     requires most { IsTime most }
     requires after { IsTime after }
@@ -55,8 +57,10 @@ fn tick_late(most: Tau, after: Tau, clock: &ClockState) -> Option<Breach>
     }
 }
 
-/// No time passes to a tick that is too late, at any clock: `after` is the true time then, and `most`
-/// the longest time from one tick to the next.
+/// Premise 2: time does not pass so far that a node ticks too late. `after` is the true time that is
+/// reached, and `most` the longest time from one tick to the next, in tau. `None` if it holds;
+/// otherwise, for the first node that is up and would tick too late, the time since its last tick
+/// against `most`.
 pub fn ticks_late(most: Tau, after: Tau, clocks: &[ClockState]) -> Option<Breach>
     requires most { IsTime most }
     requires after { IsTime after }

@@ -1,5 +1,5 @@
-//! Which premise the delays of a link break after an event: when it is joined, when time passes,
-//! and when a node comes up with other modules.
+//! Which premise the delays of a link break after an event: when the link is joined, when time
+//! passes, and when a node comes up with other modules.
 ghost use Rattle.std.specs.Prelude.{◌≡◌, ◌<◌, ◌≤◌, ◌^◌, ℤ, true, length, unsigned_abs, flat_map, Result};
 ghost use Rattle.arrayvec.specs.ArrayVec.{ArrayVec as Items};
 ghost use Rattle.wrp_base.specs.declared.message.PtpMsg.{PtpMsg};
@@ -21,7 +21,7 @@ use wrp_base::Tau;
 use wrp_course::{Breach, FibreState, Swap};
 use wrp_plant::{Delays, EndState, Plant, moved, reach, swap_for, with_ports};
 
-// The delays of a link that would have this fibre, and these delays at its ends.
+// Checks the delays of a link if it had this fibre, and these delays at its ends.
 fn delays_broken(
     plant: &Plant,
     k: u8,
@@ -43,7 +43,7 @@ fn delays_broken(
     fibre_kept(most, fibre, down, up, link)
 }
 
-// The delays of a link that is joined with these.
+// Checks the delays of a link if it is joined with these.
 fn new_fibre_broken(plant: &Plant, k: u8, ms: Tau, sm: Tau) -> Option<Breach>
     requires fits { FitsPlant plant.now }
     requires link { k < length plant.now.net.cfg.links.items }
@@ -63,7 +63,9 @@ fn new_fibre_broken(plant: &Plant, k: u8, ms: Tau, sm: Tau) -> Option<Breach>
     delays_broken(plant, k, &fibre, master, slave)
 }
 
-/// A link that is joined. The delays are in the range of an event.
+/// The first premise that breaks if a link is joined with these delays, with both sides: the delays
+/// are wrong (5), or the link is already joined (13). The delays are in tau, within `2^63` either
+/// way. `None` if none breaks.
 pub fn join_broken(plant: &Plant, k: u8, ms: Tau, sm: Tau) -> Option<Breach>
     requires fits { FitsPlant plant.now }
     requires link { k < length plant.now.net.cfg.links.items }
@@ -77,7 +79,7 @@ pub fn join_broken(plant: &Plant, k: u8, ms: Tau, sm: Tau) -> Option<Breach>
     delays.or(stands(!joined))
 }
 
-// The delays of a link after a time in which they move by its own of the moves.
+// Checks the delays of a link after its fibre changed by its entry in the list.
 fn moved_fibre_broken(plant: &Plant, k: u8, moves: &ArrayVec<(i64, i64), 63>) -> Option<Breach>
     requires fits { FitsPlant plant.now }
     requires link { k < length plant.now.net.cfg.links.items }
@@ -92,7 +94,9 @@ fn moved_fibre_broken(plant: &Plant, k: u8, moves: &ArrayVec<(i64, i64), 63>) ->
     delays_broken(plant, k, &fibre, master, slave)
 }
 
-/// The delays of all links after a time in which they move so.
+/// Premise 5: the delays of all links after their fibres changed by `moves` (down and up, in tau).
+/// `None` if it holds; otherwise both sides of the first comparison that fails, link by link: in
+/// tau for a delay, and in tau times `2^40` for the asymmetry.
 pub fn moved_fibres_broken(plant: &Plant, moves: &ArrayVec<(i64, i64), 63>) -> Option<Breach>
     requires { FitsPlant plant.now }
     ensures { (s : Setting) (w : WorldAt) (dt : ℤ) (drifts : Items ℤ) → PlantIs s w plant.now
@@ -109,7 +113,7 @@ pub fn moved_fibres_broken(plant: &Plant, moves: &ArrayVec<(i64, i64), 63>) -> O
     None
 }
 
-// The delays of a link after a node came up with these modules.
+// Checks the delays of a link after a node came up with these modules.
 fn swapped_fibre_broken(plant: &Plant, k: u8, n: u8, swaps: &ArrayVec<Swap, 18>) -> Option<Breach>
     requires fits { FitsPlant plant.now }
     requires link { k < length plant.now.net.cfg.links.items }
@@ -133,7 +137,9 @@ fn swapped_fibre_broken(plant: &Plant, k: u8, n: u8, swaps: &ArrayVec<Swap, 18>)
     delays_broken(plant, k, &span.fibre, master, slave)
 }
 
-/// The delays of all links after a node came up with these modules.
+/// Premise 5: the delays of all links after a node came up with these modules. `None` if it holds;
+/// otherwise both sides of the first comparison that fails, link by link: in tau for a delay, and
+/// in tau times `2^40` for the asymmetry.
 pub fn swapped_fibres_broken(plant: &Plant, n: u8, swaps: &ArrayVec<Swap, 18>) -> Option<Breach>
     requires { FitsPlant plant.now }
     ensures { (s : Setting) (w : WorldAt) (off : ℤ) → PlantIs s w plant.now
@@ -149,7 +155,7 @@ pub fn swapped_fibres_broken(plant: &Plant, n: u8, swaps: &ArrayVec<Swap, 18>) -
     None
 }
 
-// The delays of the module that is put in place for a port, or else of the one that is there.
+// The delays of the module that is installed for a port, or of the present one if there is none.
 fn swapped_delays(end: &EndState, port: u16, swaps: &[Swap]) -> Delays
     ensures { result ≡ delays_after true (swap_at port swaps.now) (delays_in end.now) }
 {
@@ -162,7 +168,7 @@ fn swapped_delays(end: &EndState, port: u16, swaps: &[Swap]) -> Delays
     }
 }
 
-// The same, where the end is the node's.
+// The same, if the end belongs to the node.
 fn delays_at(end: &EndState, is_its: bool, port: u16, swaps: &[Swap]) -> Delays
     ensures { result ≡ delays_after is_its (swap_at port swaps.now) (delays_in end.now) }
 {

@@ -22,7 +22,7 @@ use wrp_flights::Departed;
 use wrp_plant::Plant;
 use wrp_stamp::transition_of;
 
-// The stamp of a sending is near what the node's clock reads.
+// Checks that the stamp of a frame that is sent is near the node's reading.
 fn stamp_broken(plant: &Plant, n: u8, stamp: Tau) -> Option<Breach>
     requires fits { FitsPlant plant.now }
     requires node { n < length plant.now.net.cfg.nodes.items }
@@ -36,7 +36,8 @@ fn stamp_broken(plant: &Plant, n: u8, stamp: Tau) -> Option<Breach>
     stamp_kept(stamp, reading, node.e_tx)
 }
 
-// A frame that was put out at the true time `sent` departs over a link.
+// The first premise that breaks if a frame that was put out at the true time `sent` departs over a
+// link.
 fn departing_broken(plant: &Plant, n: u8, k: u8, stamp: Tau, sent: Tau) -> Option<Breach>
     requires fits { FitsPlant plant.now }
     requires node { n < length plant.now.net.cfg.nodes.items }
@@ -51,7 +52,7 @@ fn departing_broken(plant: &Plant, n: u8, k: u8, stamp: Tau, sent: Tau) -> Optio
     carrier_broken(plant, stamp.or(age), k)
 }
 
-// The oldest frame that waits at an end departs.
+// The same for the oldest frame that waits at an end.
 fn leaving_broken(plant: &Plant, n: u8, place: Place, stamp: Tau) -> Option<Breach>
     requires fits { FitsPlant plant.now }
     requires node { n < length plant.now.net.cfg.nodes.items }
@@ -67,7 +68,10 @@ fn leaving_broken(plant: &Plant, n: u8, place: Place, stamp: Tau) -> Option<Brea
     }
 }
 
-/// The oldest frame that waits at a port departs. The stamp is in the range of an event.
+/// The first premise that breaks if the oldest frame that waits at a port departs, with both sides.
+/// `stamp` is in tau, within `2^92` either way. In order: the port is at no link (13), no frame
+/// waits (11), the stamp is too far from the node's reading (7, in tau), the frame is too old (10,
+/// in tau), or the link has no carrier (13). `None` if none breaks.
 pub fn depart_broken(plant: &Plant, n: u8, port: u16, stamp: Tau) -> Option<Breach>
     requires fits { FitsPlant plant.now }
     requires node { n < length plant.now.net.cfg.nodes.items }
@@ -81,7 +85,7 @@ pub fn depart_broken(plant: &Plant, n: u8, port: u16, stamp: Tau) -> Option<Brea
     }
 }
 
-// A frame arrives when it is due.
+// Checks that a frame arrives when it is due.
 fn due_broken(plant: &Plant, due: Tau) -> Option<Breach>
     requires fits { FitsPlant plant.now }
     requires due { IsTime due }
@@ -92,7 +96,7 @@ fn due_broken(plant: &Plant, due: Tau) -> Option<Breach>
     on_time(now, due)
 }
 
-// The raw stamp at an end that receives a frame is near what the clock there reads.
+// Checks that the raw stamp of a frame is near the reading of the node that receives it.
 fn raw_broken(plant: &Plant, to: Place, raw: &Raw) -> Option<Breach>
     requires fits { FitsPlant plant.now }
     requires link { to.link < length plant.now.net.cfg.links.items }
@@ -109,7 +113,7 @@ fn raw_broken(plant: &Plant, to: Place, raw: &Raw) -> Option<Breach>
     raw_kept(cfg.clock, node.e_tag, transition, reading, raw)
 }
 
-// A frame that is on a fibre arrives.
+// The first premise that breaks if a frame on a fibre arrives.
 fn landing_broken(plant: &Plant, frame: &Departed, raw: &Raw) -> Option<Breach>
     requires fits { FitsPlant plant.now }
     requires link { frame.now.link < length plant.now.net.cfg.links.items }
@@ -128,7 +132,7 @@ fn landing_broken(plant: &Plant, frame: &Departed, raw: &Raw) -> Option<Breach>
     carrier_broken(plant, due.or(stamp), frame.link)
 }
 
-// A frame that departed arrives.
+// The same for a frame that departed.
 fn flight_broken(plant: &Plant, number: u32, frame: &Departed, raw: &Raw) -> Option<Breach>
     requires fits { FitsPlant plant.now }
     requires link { frame.now.link < length plant.now.net.cfg.links.items }
@@ -147,7 +151,9 @@ fn flight_broken(plant: &Plant, number: u32, frame: &Departed, raw: &Raw) -> Opt
     }
 }
 
-/// A frame arrives. The stamp is in the range of an event.
+/// The first premise that breaks if the frame of this number arrives with this raw stamp, with both
+/// sides: it is not on a fibre (11), it is not due now or its raw stamp is wrong (8), or its link
+/// has no carrier (13). `None` if none breaks.
 pub fn arrive_broken(plant: &Plant, number: u32, raw: &Raw) -> Option<Breach>
     requires fits { FitsPlant plant.now }
     requires raw { IsRaw raw.now }

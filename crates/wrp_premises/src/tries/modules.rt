@@ -1,4 +1,4 @@
-//! Which premise the modules break with which a node comes up, and what the network has of one.
+//! Which premise breaks if a node comes up with these modules.
 ghost use Rattle.std.specs.Prelude.{◌≡◌, ◌<◌, ◌≤◌, ◌^◌, ◌∷◌, [], length, map, flat_map, not, true, unsigned_abs, Result};
 ghost use Rattle.wrp_base.specs.declared.message.PtpMsg.{PtpMsg};
 ghost use Rattle.wrp_frame.specs.declared.fault.FrameFault.{FrameFault};
@@ -19,7 +19,7 @@ use wrp_base::Tau;
 use wrp_course::{Breach, Swap, place_of};
 use wrp_plant::Plant;
 
-// The grandmaster comes up with true time.
+// Checks that the grandmaster comes up with true time.
 fn top_broken(plant: &Plant, n: u8, off: Tau) -> Option<Breach>
     requires fits { FitsPlant plant.now }
     requires off { unsigned_abs off ≤ 2 ^ 90 }
@@ -30,7 +30,7 @@ fn top_broken(plant: &Plant, n: u8, off: Tau) -> Option<Breach>
     true_at_top(is_top, off)
 }
 
-// The true delays of a module that is put in place.
+// Checks the true delays of a module that is installed.
 fn module_broken(plant: &Plant, n: u8, swap: &Swap) -> Option<Breach>
     requires { FitsPlant plant.now }
     ensures { (s : Setting) (w : WorldAt) → PlantIs s w plant.now
@@ -42,7 +42,7 @@ fn module_broken(plant: &Plant, n: u8, swap: &Swap) -> Option<Breach>
     }
 }
 
-// The true delays of all modules that are put in place.
+// Checks the true delays of all modules that are installed.
 fn modules_broken(plant: &Plant, n: u8, swaps: &[Swap]) -> Option<Breach>
     requires { FitsPlant plant.now }
     ensures { (s : Setting) (w : WorldAt) → PlantIs s w plant.now
@@ -56,7 +56,7 @@ fn modules_broken(plant: &Plant, n: u8, swaps: &[Swap]) -> Option<Breach>
     None
 }
 
-// A module is put in place at a port of a link.
+// Checks that a module is installed at a port of a link.
 fn port_broken(plant: &Plant, n: u8, swap: &Swap) -> Option<Breach>
     requires { FitsPlant plant.now }
     ensures { (s : Setting) (w : WorldAt) → PlantIs s w plant.now
@@ -66,7 +66,7 @@ fn port_broken(plant: &Plant, n: u8, swap: &Swap) -> Option<Breach>
     stands(place.is_some())
 }
 
-// All modules are put in place at ports of links.
+// Checks that all modules are installed at ports of links.
 fn ports_broken(plant: &Plant, n: u8, swaps: &[Swap]) -> Option<Breach>
     requires { FitsPlant plant.now }
     ensures { (s : Setting) (w : WorldAt) → PlantIs s w plant.now
@@ -80,7 +80,7 @@ fn ports_broken(plant: &Plant, n: u8, swaps: &[Swap]) -> Option<Breach>
     None
 }
 
-// A node that is up does not come up.
+// Checks that a node that comes up is down.
 fn up_again_broken(plant: &Plant, n: u8) -> Option<Breach>
     requires fits { FitsPlant plant.now }
     requires node { n < length plant.now.net.cfg.nodes.items }
@@ -91,7 +91,10 @@ fn up_again_broken(plant: &Plant, n: u8) -> Option<Breach>
     stands(!up)
 }
 
-/// A node that comes up. The offset is in the range of an event.
+/// The first premise that breaks if a node comes up with this offset and these modules, with both
+/// sides. `off` is in tau, within `2^90` either way. In order: the grandmaster's offset is not 0
+/// (3), the delays of a link are wrong (5), a module is too far from its entry (6), a swap is at no
+/// link (13), or the node is already up (13). `None` if none breaks.
 pub fn up_broken(plant: &Plant, n: u8, off: Tau, swaps: &ArrayVec<Swap, 18>) -> Option<Breach>
     requires fits { FitsPlant plant.now }
     requires node { n < length plant.now.net.cfg.nodes.items }

@@ -1,4 +1,4 @@
-//! Which premise octets break that the peer of a port did not send.
+//! Which premise breaks if a port is handed octets that its peer did not send.
 ghost use Rattle.std.specs.Prelude.{◌≡◌, ◌<◌, ◌∷◌, [], length, Some};
 ghost use Rattle.wrp_base.specs.Message.{is_port};
 ghost use Rattle.wrp_node.specs.Set as set;
@@ -17,14 +17,14 @@ use wrp_frame::{FrameFault, decode};
 use wrp_network::LinkCfg;
 use wrp_plant::Plant;
 
-// Two ports are one.
+// Whether two ports are the same.
 fn is_same_port(a: PortIdentity, b: PortIdentity) -> bool
     ensures { result ≡ is_port a b }
 {
     a.clock == b.clock && a.port == b.port
 }
 
-// Octets say a message of this port.
+// Whether octets spell a message of this port.
 fn is_by(peer: PortIdentity, says: &Result<PtpMsg, FrameFault>) -> bool
     ensures { result ≡ is_by peer says.now }
 {
@@ -34,7 +34,7 @@ fn is_by(peer: PortIdentity, says: &Result<PtpMsg, FrameFault>) -> bool
     }
 }
 
-// Octets do not say a message of the peer.
+// Checks that octets do not spell a message of the peer.
 fn forged(by_peer: bool) -> Option<Breach>
     ensures { result ≡ told_of (forged_by by_peer ∷ []) }
 {
@@ -49,7 +49,7 @@ fn forged(by_peer: bool) -> Option<Breach>
     }
 }
 
-// clockIdentity of a node.
+// The clockIdentity of a node.
 fn identity(plant: &Plant, n: u8) -> u64
     requires fits { FitsPlant plant.now }
     requires node { n < length plant.now.net.cfg.nodes.items }
@@ -58,7 +58,7 @@ fn identity(plant: &Plant, n: u8) -> u64
     plant.node_cfg(n).identity
 }
 
-// portIdentity of an end of a link.
+// The portIdentity of an end of a link.
 fn identity_at(plant: &Plant, role: Role, link: &LinkCfg) -> PortIdentity
     requires fits { FitsPlant plant.now }
     requires upper { link.now.upper < length plant.now.net.cfg.nodes.items }
@@ -77,7 +77,7 @@ fn identity_at(plant: &Plant, role: Role, link: &LinkCfg) -> PortIdentity
     }
 }
 
-// Octets that say this are handed to a port that is this end.
+// The same for octets that are decoded, and a port that is this end of a link.
 fn said_broken(
     plant: &Plant,
     n: u8,
@@ -98,7 +98,7 @@ fn said_broken(
     carrier_broken(plant, forged(by_peer), place.link)
 }
 
-// Octets that say this are handed to a port.
+// The same for octets that are decoded.
 fn heard_broken(
     plant: &Plant,
     n: u8,
@@ -115,7 +115,9 @@ fn heard_broken(
     }
 }
 
-/// Octets that the peer did not send are handed to a port.
+/// The first premise that breaks if a port is handed octets that its peer did not send, with both
+/// sides: the port is at no link (13), the octets spell a message of the peer (12, as 1 against 0),
+/// or the link has no carrier (13). `None` if none breaks.
 pub fn noise_broken(plant: &Plant, n: u8, port: u16, octets: &Frame) -> Option<Breach>
     requires { FitsPlant plant.now }
     ensures { TellsNoise plant.now n port octets.now.items result }

@@ -1,4 +1,4 @@
-//! Which premise a time breaks that passes, as far as no node is asked.
+//! Which premise breaks if time passes: the checks that need no node.
 ghost use Rattle.std.specs.Prelude.{◌≡◌, ◌≤◌, ◌^◌, ◌+ℤ◌, length, map, flat_map, unsigned_abs};
 ghost use Rattle.wrp_course.specs.Checks.{told_of};
 ghost use Rattle.wrp_plant.specs.Plant.{FitsPlant, PlantIs};
@@ -14,7 +14,7 @@ use wrp_base::{Tau, sum};
 use wrp_course::Breach;
 use wrp_plant::{Plant, longest_tick};
 
-// So long after a time.
+// The time this much later.
 fn later(time: Tau, dt: i64) -> Tau
     requires { unsigned_abs time ≤ 2 ^ 99 }
     ensures value { result ≡ time +ℤ dt }
@@ -23,7 +23,9 @@ fn later(time: Tau, dt: i64) -> Tau
     sum(time, i128::from(dt))
 }
 
-/// No time passes to a tick that is too late.
+/// Premise 2: `dt` tau may pass without making a tick late. `None` if it holds; otherwise, for the
+/// first node in file order that is up and would tick too late, the time since its last tick
+/// against the longest, in tau.
 pub fn late_broken(plant: &Plant, dt: i64) -> Option<Breach>
     requires { FitsPlant plant.now }
     ensures { (s : Setting) (w : WorldAt) → PlantIs s w plant.now
@@ -34,7 +36,9 @@ pub fn late_broken(plant: &Plant, dt: i64) -> Option<Breach>
     ticks_late(most, after, plant.clocks.as_slice())
 }
 
-/// The delays of the links keep their rate, as they move so in a time.
+/// Premise 4: the delays of the links keep within their rate if they change by `moves` (down and
+/// up) in `dt`, all in tau. `None` if they do; otherwise both sides of the first that does not,
+/// times `10^12`.
 pub fn rates_of_fibres_broken(
     plant: &Plant,
     dt: i64,

@@ -1,4 +1,4 @@
-//! What one asks of a world who makes its events.
+//! Questions about a world, for a caller who makes its events.
 ghost use Rattle.std.specs.Prelude.{◌≡◌, ◌<◌, ◌≤◌, ◌^◌, ◌-ℤ◌, ◌||◌, length, false, option_map, slice_get, unsigned_abs, IfSome, Some};
 ghost use Rattle.wrp_base.specs.Clock.{steps_of_period};
 ghost use Rattle.wrp_base.specs.declared.link.Role.TheVariants.{Master, Slave};
@@ -35,7 +35,7 @@ impl<F: Fn(i64) -> i64> World<F> {
         self.plant.net.cfg.nodes.len() as u8
     }
 
-    /// What the network has of a node.
+    /// The network's entry for a node.
     pub fn node_cfg(&self, n: u8) -> &NodeCfg
         requires valid { IsValid F.pre F.post self.now }
         requires node { n < length self.now.nodes }
@@ -45,7 +45,7 @@ impl<F: Fn(i64) -> i64> World<F> {
         self.plant.node_cfg(n)
     }
 
-    /// What the network has of a link.
+    /// The network's entry for a link.
     pub fn link_cfg(&self, link: u8) -> &LinkCfg
         requires valid { IsValid F.pre F.post self.now }
         requires link { link < length self.now.plant.net.cfg.links.items }
@@ -57,7 +57,7 @@ impl<F: Fn(i64) -> i64> World<F> {
         self.plant.link_cfg(link)
     }
 
-    /// The link above a node. `None` exactly for the grandmaster.
+    /// The number of the link above a node. `None` only for the grandmaster.
     pub fn above(&self, n: u8) -> Option<u8>
         requires { IsValid F.pre F.post self.now }
         ensures value { Tells F.post (λ s w. above s n) self.now result }
@@ -66,7 +66,7 @@ impl<F: Fn(i64) -> i64> World<F> {
         self.plant.above(n)
     }
 
-    /// The end of a link that a port of a node is. `None` exactly where no link has that port.
+    /// The end of a link that is this port of a node. `None` if no link has that port.
     pub fn place(&self, n: u8, port: u16) -> Option<Place>
         requires { IsValid F.pre F.post self.now }
         ensures value { Tells F.post (λ s w. place_in s n port) self.now result }
@@ -86,8 +86,8 @@ impl<F: Fn(i64) -> i64> World<F> {
         self.plant.node_at(place)
     }
 
-    /// The numbers of the module that the network names at an end of a link. `None` exactly where it is not
-    /// listed there.
+    /// The numbers of the module that the network names at an end of a link; the delays are in tau. `None` if
+    /// the database has no entry for it there.
     pub fn first_entry(&self, place: Place) -> Option<Module>
         requires valid { IsValid F.pre F.post self.now }
         requires link { place.link < length self.now.plant.net.cfg.links.items }
@@ -107,7 +107,7 @@ impl<F: Fn(i64) -> i64> World<F> {
         self.plant.reading(n)
     }
 
-    /// How far the clock of the lower of two nodes is ahead of the upper one's, in tau: within `2^125`.
+    /// How far the lower node's clock is ahead of the upper node's, in tau: within `2^125`.
     pub fn apart(&self, lower: u8, upper: u8) -> Tau
         requires valid { IsValid F.pre F.post self.now }
         requires lower { lower < length self.now.nodes }
@@ -127,7 +127,7 @@ impl<F: Fn(i64) -> i64> World<F> {
         self.plant.has_carrier(link)
     }
 
-    /// The value of a node's DAC.
+    /// The DAC value of a node.
     pub fn dac(&self, n: u8) -> u16
         requires valid { IsValid F.pre F.post self.now }
         requires node { n < length self.now.nodes }
@@ -136,8 +136,8 @@ impl<F: Fn(i64) -> i64> World<F> {
         self.node(n).dac()
     }
 
-    /// The end that a frame comes to. `None` exactly where the number was not given, or the frame is on no
-    /// fibre and was put out more than a frame's life ago, as `kept` has it.
+    /// The end at which a frame arrives. `None` if the number was never given, or the frame is no longer kept:
+    /// it is on no fibre, and was put out more than a frame's life ago.
     pub fn comes_to(&self, k: u32) -> Option<Place>
         requires { IsValid F.pre F.post self.now }
         ensures value { Tells F.post (λ s w. option_map end_to (view.kept_frame s w k)) self.now result }
@@ -146,8 +146,8 @@ impl<F: Fn(i64) -> i64> World<F> {
         self.plant.comes_to(k)
     }
 
-    /// The true time at which the oldest frame that waits at an end of a link was put out. `None` exactly
-    /// where none waits.
+    /// The true time at which the oldest frame that waits at an end of a link was put out, in tau. `None` if
+    /// no frame waits there.
     pub fn oldest_at(&self, place: Place) -> Option<Tau>
         requires valid { IsValid F.pre F.post self.now }
         requires link { place.link < length self.now.plant.net.cfg.links.items }
@@ -156,8 +156,8 @@ impl<F: Fn(i64) -> i64> World<F> {
         self.plant.oldest_at(place)
     }
 
-    /// Whether a frame that was put out now is the oldest that waits at an end of a link. Where none is, it is
-    /// so at no port of any node.
+    /// Whether, at an end of any link, the oldest waiting frame was put out now. If not, the oldest waiting
+    /// frame was not put out now at any port of any node either.
     pub fn puts_out_now(&self) -> bool
         requires { IsValid F.pre F.post self.now }
         ensures value { Tells F.post puts_out self.now result }
@@ -167,7 +167,7 @@ impl<F: Fn(i64) -> i64> World<F> {
         self.plant.puts_out_now()
     }
 
-    /// Whether a frame that was put out now is the oldest that waits at an end of a link.
+    /// Whether, at an end of this link, the oldest waiting frame was put out now.
     pub fn puts_out_over(&self, link: u8) -> bool
         requires valid { IsValid F.pre F.post self.now }
         requires link { link < length self.now.plant.net.cfg.links.items }
@@ -176,8 +176,8 @@ impl<F: Fn(i64) -> i64> World<F> {
         self.plant.puts_out_over(link)
     }
 
-    /// The first port, by nodes in file order and then ascending, at which the oldest frame that waits was put
-    /// out now. `None` exactly where there is none.
+    /// The first port, as its node and its port number, at which the oldest waiting frame was put out now.
+    /// Ports are ordered by node in file order, then by number. `None` if there is no such port.
     pub fn first_put_out(&self) -> Option<(u8, u16)>
         requires { IsValid F.pre F.post self.now }
         ensures value { Tells F.post first_put_out self.now result }

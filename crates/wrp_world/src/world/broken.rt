@@ -11,8 +11,8 @@ use wrp_premises::{
 };
 
 impl<F: Fn(i64) -> i64> World<F> {
-    /// The first comparison that fails of the least premise that an event breaks. `None` exactly
-    /// where it keeps all premises.
+    /// The lowest premise that an event breaks, with both sides of its first comparison that fails.
+    /// `None` if the event keeps all premises.
     pub(crate) fn broken(&self, event: &Event) -> Option<Breach>
         requires valid { IsValid F.pre F.post self.now }
         requires event { MayCome self.now event.now }

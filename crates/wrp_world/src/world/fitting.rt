@@ -1,4 +1,4 @@
-//! Which numbers an event has, and what its octets say.
+//! The numbers of an event, and what its octets spell.
 ghost use Rattle.std.specs.Prelude.{◌≤◌, length};
 ghost use Rattle.wrp_base.specs.Octets.{AreOctets};
 ghost use Rattle.wrp_course.specs.EventAt.{FitsEvent};
@@ -16,7 +16,7 @@ fn are_octets(octets: &[u8])
     let _count = octets.len();
 }
 
-// Those of a frame are, and a frame has at most 256.
+// The octets of a frame are below 256, and a frame has at most 256 of them.
 fn octets_fit(bytes: &Frame)
     ensures { AreOctets bytes.now.items × (length bytes.now.items ≤ 256) }
 {
@@ -48,14 +48,15 @@ pub(super) fn event_fits(event: &Event)
     }
 }
 
-// What octets say.
+// What octets spell.
 fn read(bytes: &Frame) -> Result<PtpMsg, FrameFault>
     ensures { Says bytes.now.items result }
 {
     decode(bytes.as_slice())
 }
 
-/// What the octets say that an event brings and the peer did not send; a fault where it brings none.
+/// What the octets of an event spell that the peer did not send. A fault if the event has no such
+/// octets.
 pub(super) fn said(event: &Event) -> Result<PtpMsg, FrameFault>
     ensures { IsSaid event.now result }
 {

@@ -23,8 +23,8 @@ use wrp_frame::decode;
 use wrp_node::{Input, Node};
 
 impl<F: Fn(i64) -> i64> World<F> {
-    // Each node takes its input, in their order; a frame among them was put out then. The memory
-    // was taken before.
+    // The nodes take their inputs, in order. If one is a frame, it was put out at the true time
+    // `put`. The memory was taken before.
     pub(super) fn give_all(&mut self, put: Tau, outs: &mut Vec<NodeOut>)
         requires valid { IsValid F.pre F.post self.old }
         requires gifts { AllByRecursion (FitsGift self.old.plant.net.cfg) outs.old.items }
@@ -42,7 +42,7 @@ impl<F: Fn(i64) -> i64> World<F> {
         }
     }
 
-    // A node takes an input, and the rest of the world is told of its step.
+    // A node takes an input, and its step is reported to the rest of the world.
     fn give_one(&mut self, put: Tau, out: &mut NodeOut)
         requires valid { IsValid F.pre F.post self.old }
         requires gift { FitsGift self.old.plant.net.cfg out.old }
@@ -61,7 +61,7 @@ impl<F: Fn(i64) -> i64> World<F> {
     }
 }
 
-// A node takes an input: what the rest of the world is to be told of its step.
+// A node takes an input. Returns what is to be reported to the rest of the world.
 fn step_node<F: Fn(i64) -> i64>(node: &mut Node<F>, put: Tau, out: &mut NodeOut) -> News
     requires valid { NodeIsValid F.pre F.post node.old }
     requires input { FitsInput node.old out.old.input }
@@ -96,7 +96,7 @@ fn is_tick(input: &Input) -> bool
     }
 }
 
-// The White Rabbit message of an input, if it is a frame with one, with the true time at which it
+// The White Rabbit message of an input, if it is a frame with one, and the true time at which it
 // was put out.
 fn mover_of(input: &Input, put: Tau) -> Option<(WrMsg, Tau)>
     ensures { (g : Given) → IsRead put g.says g.at input.now → result ≡ mover_of g input.now }
@@ -107,7 +107,7 @@ fn mover_of(input: &Input, put: Tau) -> Option<(WrMsg, Tau)>
     }
 }
 
-// That of octets. Those that are no Signaling have none, and are not read.
+// The same for octets. Only a Signaling has such a message; other octets are not decoded.
 fn in_frame(octets: &[u8], put: Tau) -> Option<(WrMsg, Tau)>
     ensures { (says : Result PtpMsg FrameFault) → Says octets.now says
         → result ≡ in_frame says put }
@@ -119,7 +119,7 @@ fn in_frame(octets: &[u8], put: Tau) -> Option<(WrMsg, Tau)>
     }
 }
 
-// Whether messageType is that of a Signaling.
+// Whether the messageType is a Signaling.
 fn is_signaling(octets: &[u8]) -> bool
     ensures { result ≡ is_signaling octets.now }
 {
@@ -129,7 +129,7 @@ fn is_signaling(octets: &[u8]) -> bool
     }
 }
 
-// The White Rabbit message that octets say, if they say one.
+// The White Rabbit message that octets spell, if they spell one.
 fn read_frame(octets: &[u8], put: Tau) -> Option<(WrMsg, Tau)>
     ensures { (says : Result PtpMsg FrameFault) → Says octets.now says
         → result ≡ in_frame says put }

@@ -22,9 +22,10 @@ use wrp_node::{Node, node_set};
 use wrp_plant::Plant;
 
 impl<F: Fn(i64) -> i64> World<F> {
-    /// All nodes are down, all links are cut, and true time is the epoch. `laws` has a place for each
-    /// node, in file order: `None` exactly for the grandmaster, and for each other node a law of the
-    /// kind of the link above it, whose error is at most that link's.
+    /// A world before any event: all nodes are down, all links are cut, and true time is the epoch.
+    /// `laws` has one entry for each node, in file order: `None` for the grandmaster, and for each
+    /// other node a law of the same kind as the link above it, with at most that link's error.
+    /// `AllocError` if there is not enough memory; then there is no world.
     #[inline(never)]
     pub fn new(
         alloc: Global,

@@ -1,4 +1,4 @@
-//! Which premise a time breaks that passes: the rates of clocks are asked of the nodes.
+//! Which premise breaks if time passes: the rates of clocks depend on the nodes.
 ghost use Rattle.std.specs.Prelude.{◌≡◌, ◌<◌, ◌≤◌, length, flat_map, not, if◌then◌else◌, IfSome, None, Some, Result};
 ghost use Rattle.std.specs.Option.{is_some};
 ghost use Rattle.wrp_base.specs.declared.message.PtpMsg.{PtpMsg};
@@ -31,7 +31,7 @@ fn is_holdover(state: ServoState) -> bool
     matches!(state, ServoState::Holdover)
 }
 
-// The rate that the clock of a node that is up keeps, if it keeps one.
+// The rate within which the clock of a node that is up keeps, if it has one to keep.
 fn steered_rate(locked: bool, state: ServoState, cfg: &NodeCfg) -> Option<u64>
     ensures { result ≡ steered_rate locked state cfg.now }
 {
@@ -44,14 +44,14 @@ fn steered_rate(locked: bool, state: ServoState, cfg: &NodeCfg) -> Option<u64>
     }
 }
 
-// That of a clock whose node may be down.
+// The same for a clock whose node may be down.
 fn steered_where(up: bool, steered: Option<u64>) -> Option<u64>
     ensures { result ≡ (if up then steered else None) }
 {
     if up { steered } else { None }
 }
 
-// How far a clock moves.
+// How far a clock drifts, in tau.
 fn drift_at(drifts: &[i64], n: u8) -> i64
     ensures { result ≡ drift_of drifts.now n }
 {
@@ -62,7 +62,8 @@ fn drift_at(drifts: &[i64], n: u8) -> i64
 }
 
 impl<F: Fn(i64) -> i64> World<F> {
-    /// The rate that a node's clock keeps, in `10^-12`: at most `10^9`. `None` where it keeps none.
+    /// The rate within which a node's clock keeps, in `10^-12`: at most `10^9`. `None` if it has no rate to
+    /// keep: the node is not the grandmaster, and is down or neither locked nor in HOLDOVER.
     pub fn rate(&self, n: u8) -> Option<u64>
         requires valid { IsValid F.pre F.post self.now }
         requires node { n < length self.now.nodes }
@@ -73,7 +74,7 @@ impl<F: Fn(i64) -> i64> World<F> {
         self.rate_where(n, up)
     }
 
-    /// How the clock of a node is steered. `None` exactly where it is down.
+    /// How the clock of a node is steered. `None` if the node is down.
     pub fn steering(&self, n: u8) -> Option<Steer>
         requires valid { IsValid F.pre F.post self.now }
         requires node { n < length self.now.nodes }
@@ -89,7 +90,7 @@ impl<F: Fn(i64) -> i64> World<F> {
         }
     }
 
-    // The rate that the clock of a node keeps, of which it is known whether it is up.
+    // The rate within which a node's clock keeps, if it is known whether the node is up.
     fn rate_where(&self, n: u8, up: bool) -> Option<u64>
         requires valid { IsValid F.pre F.post self.now }
         requires node { n < length self.now.nodes }
@@ -107,8 +108,8 @@ impl<F: Fn(i64) -> i64> World<F> {
         }
     }
 
-    // The rate that a clock keeps that is not steered: the grandmaster's does not move. It is the last to be
-    // asked, since it looks for a link among all.
+    // The rate of a clock that is not steered: the grandmaster's clock does not drift. This is checked last,
+    // because it searches all links.
     fn still_rate(&self, n: u8) -> Option<u64>
         requires { IsValid F.pre F.post self.now }
         ensures value { Tells F.post (λ s w. if not (is_some (link_above s.cfg n)) then Some 0 else None) self.now result }
@@ -118,7 +119,7 @@ impl<F: Fn(i64) -> i64> World<F> {
         if is_top { Some(0) } else { None }
     }
 
-    // A clock keeps its rate.
+    // Checks that a clock keeps within its rate.
     fn rate_broken(&self, n: u8, dt: i64, drifts: &ArrayVec<i64, 64>) -> Option<Breach>
         requires valid { IsValid F.pre F.post self.now }
         requires node { n < length self.now.nodes }
@@ -129,7 +130,7 @@ impl<F: Fn(i64) -> i64> World<F> {
         rate_kept(drift_at(drifts.as_slice(), n), dt, rate)
     }
 
-    // All clocks keep their rates.
+    // Checks that all clocks keep within their rates.
     fn rates_broken(&self, dt: i64, drifts: &ArrayVec<i64, 64>) -> Option<Breach>
         requires valid { IsValid F.pre F.post self.now }
         ensures { (s : Setting) (w : WorldAt) → StandsFor F.post s w self.now
@@ -144,7 +145,7 @@ impl<F: Fn(i64) -> i64> World<F> {
         None
     }
 
-    /// A time that passes, in which clocks and fibres move so.
+    /// The first premise that breaks if time passes with these drifts and moves.
     pub(super) fn pass_broken(
         &self,
         dt: i64,

@@ -15,21 +15,23 @@ use std::alloc::Global;
 use wrp_course::{Breach, Event, NodeOut};
 
 impl<F: Fn(i64) -> i64> World<F> {
-    /// Takes an event: where it keeps all premises, and the memory for it can be had, it changes
-    /// the world, and `outs` is filled with the steps that the nodes make of it, in their order.
-    /// What `outs` had before is gone. A refused event changes nothing, and leaves in `outs`
-    /// nothing of use.
+    /// Takes an event. If it keeps all premises and there is enough memory, it changes the world,
+    /// and `outs` holds the steps of the nodes, in order, instead of what was there. `Broken` if it
+    /// breaks a premise: the lowest one that is broken, with both sides of its first comparison
+    /// that fails. `Memory` if it keeps all premises, but there is not enough memory. A refused
+    /// event changes nothing in the world; the contents of `outs` are then not specified.
     ///
-    /// An accepted event goes on with each run that the world was in. After it no port is in
+    /// An accepted event continues each run that the world was in. After it, no port is in
     /// WR_LINK_ON unless its peer went through the required steps of that same handshake, and a
-    /// slave there knows the deltas of the modules that are in place; each port is where its marks
-    /// lead, and judged Ok exactly in WR_LINK_ON; what the nodes report of that is true; and a
-    /// frame that a node drops for one of the reasons 1 to 12 changed one counter of it alone.
+    /// slave there knows the deltas of the installed modules. Each port is where its marks lead,
+    /// and is judged Ok exactly in WR_LINK_ON. What the nodes report about this is true. A frame
+    /// that a node drops for one of the reasons 1 to 12 changes one counter of that node and
+    /// nothing else.
     ///
-    /// In a run that began with `World::new`, each node that is up is, besides, within its bound of
-    /// true time in TRACK and in HOLDOVER, ahead or behind; each estimate among the steps is of a
-    /// node in TRACK, within its path, and near its offset from its parent; and each chain of good
-    /// samples has a constant.
+    /// In a run that began with `World::new`, this is also true: each node that is up is within its
+    /// bound of true time in TRACK and in HOLDOVER, ahead or behind. Each estimate among the steps
+    /// comes from a node in TRACK that is within its path, and is near its offset from its parent.
+    /// Each chain of good samples has a constant.
     pub fn step_into(&mut self, event: &Event, outs: &mut Vec<NodeOut>) -> Result<(), Refused>
         requires valid { IsValid F.pre F.post self.old }
         requires event { MayCome self.old event.now }
@@ -58,8 +60,8 @@ impl<F: Fn(i64) -> i64> World<F> {
         Ok(())
     }
 
-    /// Takes an event, and answers with the steps that the nodes make of it: as `step_into`, into a
-    /// list of its own.
+    /// Takes an event as `step_into` does, and returns the steps of the nodes in a new list.
+    /// `Broken` and `Memory` come in the same cases; a refused event changes nothing in the world.
     pub fn step(&mut self, alloc: Global, event: &Event) -> Result<Vec<NodeOut>, Refused>
         requires valid { IsValid F.pre F.post self.old }
         requires event { MayCome self.old event.now }
@@ -86,7 +88,7 @@ impl<F: Fn(i64) -> i64> World<F> {
     }
 }
 
-// What is answered where an event breaks a premise.
+// The refusal of an event that breaks a premise.
 fn refused(breach: Breach) -> Refused
     ensures { result ≡ Broken breach.premise breach.shown breach.bound }
 {

@@ -1,4 +1,4 @@
-//! The world takes an event of which it is known that it keeps all premises.
+//! The world takes an event that is known to keep all premises.
 ghost use Rattle.std.specs.Prelude.{◌≡◌, ◌+◌, OnErr, OnOk};
 ghost use Rattle.wrp_world.specs.StandsFor.{IsValid};
 ghost use Rattle.wrp_world.specs.Step.{MayCome, StaysSo};
@@ -14,10 +14,10 @@ use wrp_changes::{begin, put_out_at};
 use wrp_course::{Event, NodeOut};
 
 impl<F: Fn(i64) -> i64> World<F> {
-    /// Takes an event of which it is known that it keeps all premises in some state that the world stands for:
-    /// as `step_into`, but no premise is tried. What `step_into` ensures of an accepted event holds of each such
-    /// state, and of each run that leads to one. Where the memory cannot be had nothing is changed, and what is
-    /// left in `outs` is of no use.
+    /// Takes an event that is known to keep all premises in some state that the world stands for. It does what
+    /// `step_into` does, but does not check the premises. What `step_into` ensures of an accepted event is true
+    /// of each such state, and of each run that leads to one. `AllocError` if there is not enough memory; then
+    /// nothing changes in the world, and the contents of `outs` are not specified.
     pub fn take(&mut self, event: &Event, outs: &mut Vec<NodeOut>) -> Result<(), AllocError>
         requires valid { IsValid F.pre F.post self.old }
         requires event { MayCome self.old event.now }
@@ -44,7 +44,7 @@ impl<F: Fn(i64) -> i64> World<F> {
         Ok(())
     }
 
-    // Takes an event that keeps all premises by what its octets say.
+    // Takes an event that keeps all premises, given what its octets spell.
     pub(super) fn take_so(
         &mut self,
         event: &Event,

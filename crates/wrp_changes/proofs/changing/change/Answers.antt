@@ -5,7 +5,7 @@ use Rattle.wrp_changes.specs.Changes.{Changes}
 use Rattle.wrp_changes.specs.Room.{HasRoom}
 use Rattle.wrp_changes.proofs.changing.change.Goals as goal
 
--- in both cases
+-- with and without an error
 room : {A E : Type 0} (r : Result A E) (e : Event) (old new : Plant) → OnOk r (Changes e old new) → OnErr r (new ≡ old) → (k : ℕ) → HasRoom k old → HasRoom k new
 room (Ok x) e old new ok err k h = ok.room k h
 room (Err x) e old new ok err k h = subst (HasRoom k) (sym err) h

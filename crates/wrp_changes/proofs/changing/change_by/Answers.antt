@@ -1,4 +1,4 @@
--- Each kind of event changes what its own call does.
+-- Each kind of event changes what its own function changes.
 use Rattle.std.proofs.Common.{◌≡◌, ◌≤◌, ◌≤ℤ◌, ◌^◌, ◌+◌, ◌-◌, ℕ, ℤ, pos, unsigned_abs, to_z, of_z, sym, subst, OnOk, Result, Ok, Err, arith}
 use Rattle.std.proofs.lemmas.Int.{ints, to_z-of_z, fits_signed_from_abs}
 use Rattle.std.specs.Int.{w64, w128}

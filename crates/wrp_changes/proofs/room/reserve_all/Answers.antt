@@ -4,7 +4,7 @@ use Rattle.wrp_changes.proofs.Turned.{turned_all, turned_next}
 use Rattle.wrp_changes.specs.Moves.{EachBecame}
 use Rattle.wrp_changes.proofs.room.reserve_all.Goals as goal
 
--- where memory could not be had at a link
+-- if there is not enough memory at a link
 stopped : (c : goal.After-from_residual) → EachBecame Keeps c.args.spans.now.items (slice_set c.loop-k.spans.items c.loop-k.k c.reserve_span.new.span)
 stopped c =
     kept_all (c.loop-k.k + 1) c.args.spans.now.items (slice_set c.loop-k.spans.items c.loop-k.k c.reserve_span.new.span)

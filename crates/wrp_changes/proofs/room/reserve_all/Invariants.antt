@@ -1,4 +1,4 @@
--- The links so far have memory for the steps, and the others are as they were.
+-- The links so far have room for the steps, and the others are as they were.
 use Rattle.wrp_changes.proofs.Roomy.{Takes}
 use Rattle.wrp_changes.proofs.Turned.{TurnedTo}
 use Rattle.wrp_changes.proofs.room.reserve_all.Given as goal

@@ -1,4 +1,4 @@
--- The field that csv has at that place, or no octets.
+-- The field that csv has at that place, or an empty one.
 use Rattle.std.proofs.Common.{Some, None}
 use Rattle.csv.specs.Records.{fields_of}
 use Rattle.wrp_fields.proofs.FieldLemmas.{field_is}

@@ -1,4 +1,4 @@
--- What is kept of the opposite of a held number is what is kept of the number's opposite.
+-- The opposite of a number that was cut is kept as the opposite of the number.
 use Rattle.std.proofs.Common.{rules}
 use Rattle.wrp_fields.specs.Numbers.{digits_of}
 use Rattle.wrp_fields.proofs.HeldNumbers.{opposite_kept}

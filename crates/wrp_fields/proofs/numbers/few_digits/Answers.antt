@@ -1,9 +1,9 @@
--- What so few digits are worth fits 64 bits.
+-- The value of this many digits fits 64 bits.
 use Rattle.std.proofs.Common.{ℕ, ◌<◌, ◌≤◌, ◌*◌, ◌+◌, ◌^◌, arith, lit≤}
 use Rattle.std.proofs.Math.Nat.{pow-le-pow_right}
 use Rattle.wrp_fields.proofs.numbers.few_digits.Goals as goal
 
--- one digit more still fits
+-- with one more digit it still fits
 fits : (value digit i count : ℕ) → value < 10 ^ i → i < count → count ≤ 19 → digit ≤ 255 → 10 * value + digit < 2 ^ 64
 fits value digit i count small within few one =
     let least : i ≤ 18 = omega arith in

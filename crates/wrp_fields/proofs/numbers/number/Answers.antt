@@ -1,4 +1,4 @@
--- A text that begins with `-` is read as its other octets are, and each other text as its digits are.
+-- A text that begins with `-` is read as its other octets are; any other text is read as digits.
 use Rattle.std.proofs.Common.{ℕ, ℤ, ◌≡◌, ◌==◌, ◌⊎◌, inl, inr, ◌<◌, ◌≤◌, ◌-◌, ◌^◌, min, Bool, true, false, Option, Some, None, List, [], ◌∷◌, length, take, drop, get_or, refl, sym, ap, ◌∙◌, rules, arith, pos, negsuc, neg_ℤ}
 use Rattle.std.proofs.lemmas.List.{take_all}
 use Rattle.std.proofs.lemmas.Bool.{lt-leb, cases_lt}
@@ -13,7 +13,7 @@ below least greatest [] some first = absurd (omega arith)
 below least greatest (octet ∷ octets) some first =
     rw (first, take_all (length (octet ∷ octets) - 1) octets (omega arith)) refl
 
--- a number past the range is not kept
+-- a number beyond the range is not kept
 past_above : (greatest : ℤ) (n limit : ℕ) → unsigned_abs greatest < limit → limit ≤ n → int_le (pos n) greatest ≡ false
 past_above (pos g) n limit small over = lt-leb n g (omega arith)
 past_above (negsuc g) n limit small over = refl
@@ -23,7 +23,7 @@ outside_above : (least greatest z : ℤ) (b : Bool) → int_le least z ≡ b →
 outside_above least greatest z true low e = rw (low, e) refl
 outside_above least greatest z false low e = rw low refl
 
--- held at such a limit or not, a number is kept alike
+-- cutting a number to such a limit does not change what is kept of it
 kept_above_at : (least greatest : ℤ) (n limit : ℕ) → unsigned_abs greatest < limit → (n < limit) ⊎ (limit ≤ n)
     → kept_in least greatest (pos (min n limit)) ≡ kept_in least greatest (pos n)
 kept_above_at least greatest n limit small (inl under) =
@@ -34,7 +34,7 @@ kept_above_at least greatest n limit small (inr over) =
     outside_above least greatest (pos (min n limit)) (int_le least (pos (min n limit))) refl (past_above greatest (min n limit) limit small held)
     ∙ sym (outside_above least greatest (pos n) (int_le least (pos n)) refl (past_above greatest n limit small over))
 
--- a number held at a limit that no number of the range reaches is kept as it was before
+-- a number that was cut to a limit beyond the range is kept exactly if the number itself is kept
 kept_held : (least greatest : ℤ) (digits : Option ℕ) (z : ℤ) → unsigned_abs greatest < 2 ^ 127 - 1
     → Some z ≡ option_map (λ n. pos (min n (2 ^ 127 - 1))) digits
     → kept_in least greatest z ≡ option_and_then (kept_in least greatest) (option_map pos digits)

@@ -1,4 +1,4 @@
--- Where 64 bits cannot have what some digits are worth, they cannot have what all are.
+-- If the value of some digits does not fit 64 bits, the value of all does not fit.
 use Rattle.std.proofs.Common.{arith}
 use Rattle.wrp_fields.proofs.Values.{value_reaches}
 use Rattle.wrp_fields.proofs.numbers.short_value.Goals as goal

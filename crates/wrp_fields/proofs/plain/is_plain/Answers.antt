@@ -1,4 +1,4 @@
--- The two tests of a line are one.
+-- The two tests of a line agree.
 use Rattle.wrp_fields.proofs.PlainLemmas.{same_test}
 use Rattle.wrp_fields.proofs.plain.is_plain.Goals as goal
 

@@ -1,4 +1,4 @@
--- None of the modules so far is for the port.
+-- No swap so far names the port.
 use Rattle.std.proofs.Common.{◌≡◌, drop}
 use Rattle.wrp_course.specs.Moved.{swap_at}
 use Rattle.wrp_plant.proofs.swaps.swap_for.Given as goal

@@ -8,7 +8,7 @@ use Rattle.wrp_plant.proofs.SignedReads.{read}
 use Rattle.wrp_plant.proofs.Sizing.{time_size}
 use Rattle.wrp_premises.proofs.handing.handed_broken.Goals as goal
 
--- the time is in its range
+-- the time is in range
 size : (c : goal.Start) → IsTime c.args.sent
 size c = time_size c.args.plant.now.events c.args.sent c.requires.fits.events (c.requires.fits.frames.sent c.args.number c.args.sent c.requires.sent)
 

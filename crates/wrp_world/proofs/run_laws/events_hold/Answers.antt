@@ -1,4 +1,4 @@
--- What holds of each event, from the laws of every run.
+-- What is true of each event follows from the laws of every run.
 use Rattle.std.specs.Prelude.{◌∷◌}
 use Rattle.wrp_world.proofs.run_laws.events_hold.Goals as goal
 

@@ -1,4 +1,4 @@
--- What is given at the ports so far is listed.
+-- The inputs at the ports so far are listed.
 use Rattle.std.proofs.Common.{◌*◌}
 use Rattle.wrp_course.specs.Given.{goes_from}
 use Rattle.wrp_changes.specs.Giving.{Adds, at_numbers}

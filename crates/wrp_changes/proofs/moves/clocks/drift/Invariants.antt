@@ -1,4 +1,4 @@
--- The clocks so far have moved, and the others are as they were.
+-- The clocks so far have drifted, and the others are as they were.
 use Rattle.wrp_changes.specs.Moves.{Drifts}
 use Rattle.wrp_changes.proofs.Turned.{TurnedTo}
 use Rattle.wrp_changes.proofs.moves.clocks.drift.Given as goal

@@ -4,7 +4,7 @@ use Rattle.wrp_changes.proofs.Departing.{delay_told, due_fits}
 use Rattle.wrp_plant.proofs.SignedReads.{read}
 use Rattle.wrp_changes.proofs.moves.departures.due_from.Goals as goal
 
--- the sum is that of the time and the delay
+-- the sum is the time plus the delay
 summed : (c : goal.After-sum) → c.sum.result ≡ c.now-now.result +ℤ c.delay_from-delay.result
 summed c =
     c.sum.ensures.value

@@ -5,7 +5,7 @@ use Rattle.wrp_changes.proofs.Departing.{due_size, leaving_fits, leaving_is, lea
 use Rattle.wrp_plant.proofs.SignedReads.{read}
 use Rattle.wrp_changes.proofs.moves.departures.leaving.Goals as goal
 
--- the frame is that of the oldest that waits at this end
+-- the frame is the oldest that waits at this end
 frame : (c : goal.After-departed) → c.departed.result ≡ departed_of c.args.place c.due_from-due.result (end_in c.span.result.now c.args.place.role).waiting.items
 frame c =
     c.departed.ensures

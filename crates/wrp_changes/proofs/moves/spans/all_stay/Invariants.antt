@@ -1,4 +1,4 @@
--- None of the fibres so far moves.
+-- No fibre so far changes.
 use Rattle.std.proofs.Common.{◌≡◌, ℕ, ◌<◌, pos}
 use Rattle.wrp_course.specs.Moved.{move_of}
 use Rattle.wrp_changes.proofs.moves.spans.all_stay.Given as goal

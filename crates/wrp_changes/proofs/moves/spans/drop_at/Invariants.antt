@@ -1,4 +1,4 @@
--- The links so far have lost what waited where they are the node's, and the others are as they were.
+-- The node's links so far have lost their waiting frames, and all else is as it was.
 use Rattle.wrp_changes.specs.Moves.{DropsAt}
 use Rattle.wrp_changes.proofs.Turned.{TurnedTo}
 use Rattle.wrp_changes.proofs.moves.spans.drop_at.Given as goal

@@ -1,4 +1,4 @@
--- The fibres so far have moved, and the others are as they were.
+-- The fibres so far have changed, and the others are as they were.
 use Rattle.wrp_changes.specs.Moves.{Moves}
 use Rattle.wrp_changes.proofs.Turned.{TurnedTo}
 use Rattle.wrp_changes.proofs.moves.spans.move_each.Given as goal

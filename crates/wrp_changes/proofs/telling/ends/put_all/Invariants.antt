@@ -1,4 +1,4 @@
--- What waits, and what the outputs that are left add to it.
+-- The waiting frames, and what the remaining outputs add to them.
 use Rattle.std.proofs.Common.{◌≡◌, ◌+◌, ◌++◌, drop, length, map, vec_len, vec_capacity}
 use Rattle.wrp_node.specs.Sends.{frames_at}
 use Rattle.wrp_changes.specs.PlantTold.{put_at}

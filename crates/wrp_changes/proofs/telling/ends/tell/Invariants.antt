@@ -1,4 +1,5 @@
--- The links so far were told, with memory for the steps that are left, and the others are as they were.
+-- The links so far have taken their part of the step and have room for the remaining steps; the others
+-- are as they were.
 use Rattle.wrp_changes.proofs.TellingEnds.{TellsWithRoom}
 use Rattle.wrp_changes.proofs.Turned.{TurnedTo}
 use Rattle.wrp_changes.proofs.telling.ends.tell.Given as goal

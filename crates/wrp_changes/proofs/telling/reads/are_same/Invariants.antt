@@ -1,4 +1,4 @@
--- The rows so far say the same.
+-- The rows so far have the same content.
 use Rattle.std.proofs.Common.{◌≡◌, ℕ, ◌<◌, Some, slice_get}
 use Rattle.wrp_node.specs.declared.ports.states.PortState.{PortState}
 use Rattle.wrp_changes.specs.PlantTold.{SameRow}

@@ -1,4 +1,4 @@
--- None of the outputs so far steps the clock.
+-- No output so far steps the clock.
 use Rattle.std.proofs.Common.{◌≡◌, drop}
 use Rattle.wrp_changes.specs.PlantTold.{cycles_in}
 use Rattle.wrp_changes.proofs.telling.reads.cycles_in.Given as goal

@@ -1,4 +1,4 @@
--- None of the outputs so far is a frame.
+-- No output so far is a frame.
 use Rattle.std.proofs.Common.{◌≡◌, drop}
 use Rattle.wrp_changes.specs.PlantTold.{sends}
 use Rattle.wrp_changes.proofs.telling.reads.sends.Given as goal

@@ -1,4 +1,4 @@
--- None so far is the port.
+-- No row so far belongs to the port.
 use Rattle.std.proofs.Common.{◌≡◌, drop}
 use Rattle.wrp_node.specs.States.{state_in}
 use Rattle.wrp_changes.proofs.telling.reads.state_in.Given as goal

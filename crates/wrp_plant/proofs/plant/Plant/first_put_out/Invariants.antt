@@ -1,4 +1,4 @@
--- It is the first of those at the ends of the links so far.
+-- It is the first among the ends of the links so far.
 use Rattle.std.proofs.Common.{◌≡◌, ◌≤◌}
 use Rattle.wrp_plant.specs.FirstPort.{first_among}
 use Rattle.wrp_plant.specs.Plant.{PlantIs}

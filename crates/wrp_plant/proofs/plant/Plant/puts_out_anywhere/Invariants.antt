@@ -1,4 +1,4 @@
--- What is so at the ends of the links that are left is so at those of all.
+-- The answer for the remaining links is the answer for all of them.
 use Rattle.std.proofs.Common.{◌≡◌, ◌-◌, ◌||◌}
 use Rattle.std.specs.List.{list_any}
 use Rattle.wrp_base.specs.declared.link.Role.TheVariants.{Master, Slave}

@@ -1,4 +1,4 @@
--- As many clocks as were asked for so far, each of which is new.
+-- The list has one new clock for each round so far.
 use Rattle.std.proofs.Common.{◌≡◌, length}
 use Rattle.wrp_plant.specs.New.{new_clock}
 use Rattle.wrp_plant.specs.Plant.{Each}

@@ -1,4 +1,4 @@
--- What is told of the clocks that are left is told of all.
+-- The first check that fails among the remaining clocks is the first among all.
 use Rattle.std.proofs.Common.{◌≡◌, map, drop}
 use Rattle.wrp_course.specs.Checks.{told_of}
 use Rattle.wrp_course.specs.Premises.{late_by}

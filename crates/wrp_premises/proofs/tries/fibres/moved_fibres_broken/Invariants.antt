@@ -1,4 +1,4 @@
--- What is told of the links that are left is told of all.
+-- The first check that fails among the remaining links is the first among all.
 use Rattle.std.proofs.Common.{◌≡◌, ◌-◌, ℤ, flat_map}
 use Rattle.arrayvec.specs.ArrayVec.{ArrayVec}
 use Rattle.wrp_course.specs.Checks.{told_of}

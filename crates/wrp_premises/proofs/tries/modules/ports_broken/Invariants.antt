@@ -1,4 +1,4 @@
--- What is told of the ports that are left is told of all.
+-- The first check that fails among the remaining ports is the first among all.
 use Rattle.std.proofs.Common.{◌≡◌, drop, map}
 use Rattle.wrp_course.specs.Checks.{told_of}
 use Rattle.wrp_plant.specs.Plant.{PlantIs}

@@ -1,4 +1,4 @@
--- Each kind of event: what its premises ask, and what they tell.
+-- Each kind of event: what its premises need, and what they report.
 use Rattle.std.proofs.Common.{◌∙◌, ap, ap₂, Err, arith}
 use Rattle.wrp_frame.specs.declared.fault.FrameFault.TheVariants.{Short}
 use Rattle.wrp_course.specs.Checks.{told_of}

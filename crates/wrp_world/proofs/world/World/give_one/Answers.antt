@@ -1,4 +1,4 @@
--- The node takes its input, and the plant is told of it.
+-- The node takes its input, and the plant takes the report of the step.
 use Rattle.std.proofs.Common.{◌∙◌, ap, sym, subst, slice_set, ◌+◌}
 use Rattle.wrp_changes.specs.PlantTold.{MayStep, SendsFew}
 use Rattle.wrp_changes.specs.Room.{HasRoom}

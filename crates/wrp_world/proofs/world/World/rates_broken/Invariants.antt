@@ -1,4 +1,4 @@
--- What is told of the nodes that are left is told of all.
+-- The first check that fails among the remaining nodes is the first among all.
 use Rattle.std.proofs.Common.{◌≡◌, ◌-◌, flat_map}
 use Rattle.wrp_course.specs.Checks.{told_of}
 use Rattle.wrp_course.specs.Premises.{rate_kept}

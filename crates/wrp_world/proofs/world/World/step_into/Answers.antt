@@ -1,4 +1,4 @@
--- The event keeps all premises, and is taken, or breaks one.
+-- The event keeps all premises and is taken, or it breaks one.
 use Rattle.std.proofs.lemmas.Result.{err_from_is_err_and}
 use Rattle.wrp_world.proofs.RunsOn.{runs_on}
 use Rattle.wrp_world.proofs.TrueRuns.{links_go_on, runs_kept, truth_goes_on}

@@ -1,4 +1,4 @@
--- What the event's octets say is read, and the event is taken.
+-- What the event's octets say is decoded, and the event is taken.
 use Rattle.wrp_world.proofs.TakenRuns.{can_so, takes_links_on, takes_runs_on, takes_truth_on}
 use Rattle.wrp_world.proofs.TrueRuns.{runs_kept}
 use Rattle.wrp_changes.proofs.Refusals.{on_err}

@@ -1,4 +1,4 @@
--- Memory is had for all that comes of the event, or nothing is changed; then the nodes take what it gives.
+-- Memory is taken for all that the event needs, or nothing changes; then the nodes take the inputs.
 use Rattle.std.proofs.Common.{◌∙◌, sym, subst, to_z, of_z}
 use Rattle.std.proofs.lemmas.Int.{to_z-of_z}
 use Rattle.std.specs.Int.{w128}

@@ -1,4 +1,4 @@
--- As many nodes as laws were taken so far, each of which is new.
+-- One new node for each law that was taken so far.
 use Rattle.std.proofs.Common.{◌≡◌, ◌≤◌, length, drop}
 use Rattle.wrp_world.specs.New.{IsNewNode}
 use Rattle.wrp_plant.specs.Plant.{Each}
