@@ -115,8 +115,8 @@ fn number_at(order: Order, octets: &[u8], at: usize) -> u32
     }
 }
 
-/// The order of all numbers of the capture that begins with these octets; they are its first 24, or
-/// more.
+/// The order of all numbers of the capture that begins with these octets. `Magic` if they are fewer
+/// than 24, or begin with no magic; otherwise `LinkType` if the link type is not Ethernet.
 pub fn header(octets: &[u8]) -> Result<Order, CaptureFault>
     ensures ok { (order : Order) → (result ≡ Ok order) ↔ HasHeader order octets.now }
     ensures refused { (fault : CaptureFault)
