@@ -33,4 +33,6 @@ pub struct Plant {
     pub spare: u8,
     /// No frame that waits was put out later.
     pub last_put: Tau,
+    /// The grandmaster: no link stands above it.
+    pub top: u8,
 }
