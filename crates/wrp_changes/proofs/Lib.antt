@@ -7,6 +7,7 @@ pub mod FrameGifts
 pub mod FramesTurned
 pub mod Listing
 pub mod Moving
+pub mod NoBits
 pub mod PutsKept
 pub mod QuietSteps
 pub mod Refusals

@@ -103,6 +103,7 @@ told_both news outs old mid new m clocks t = record {
       (sym (ap (λ (p : Plant). p.clocks.items) t.same)) clocks;
   of_spans = subst (λ (p : Plant). EachBecame (TellsAt p.time news outs p.net.cfg.links.items) p.spans.items new.spans.items) m t.spans;
   of_frames = ap (λ (p : Plant). p.frames) t.same ∙ ap (λ (p : Plant). p.frames) m;
+  top = ap (λ (p : Plant). p.top) t.same ∙ ap (λ (p : Plant). p.top) m;
 }
 
 pub put_both : (news : News) (outs : List Output) (old mid new : Plant) → mid ≡ record old { clocks = mid.clocks } → TellsEnds news outs mid new →

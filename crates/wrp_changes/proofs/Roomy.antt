@@ -122,6 +122,7 @@ same_fits old ys same r room f = subst FitsPlant (sym same) (record {
   room = room;
   puts = each_turned SameSpan (λ n. SpanPutBy old.last_put) (λ n. SpanPutBy old.last_put) old.spans.items ys.spans.items r (λ k x y q p. span_put old.last_put k x y q p) f.puts;
   put = f.put;
+  top = f.top;
 })
 
 fewer_end : (k n : ℕ) (end : EndState) → k ≤ n → HasEndRoom n end → HasEndRoom k end

@@ -1,6 +1,8 @@
 -- Fibres that do not change.
-use Rattle.std.proofs.Common.{◌≡◌, ◌∙◌, refl, ap, ap₂, sym, subst, ℕ, zero, suc, ◌+◌, ◌<◌, ◌≤◌, ◌^◌, ◌⊎◌, inl, inr, ℤ, pos, ◌+ℤ◌, unsigned_abs, List, [], ◌∷◌, length, arith}
+use Rattle.std.proofs.Common.{◌≡◌, ◌∙◌, refl, ap, ap₂, sym, subst, ℕ, zero, suc, ◌+◌, ◌<◌, ◌≤◌, ◌^◌, ◌⊎◌, inl, inr, ℤ, pos, ◌+ℤ◌, unsigned_abs, List, [], ◌∷◌, length, slice_index_or, arith}
 use Rattle.std.proofs.lemmas.Int.{ints}
+use Rattle.std.proofs.lemmas.Option.{slice_get-get_or}
+use Rattle.std.specs.Option.{option_map_or}
 use Rattle.wrp_course.specs.Moved.{move_of}
 use Rattle.wrp_plant.specs.declared.ends.Span.{Span}
 use Rattle.wrp_changes.specs.Moves.{EachBecame, Moves}
@@ -15,6 +17,10 @@ still_next moves i h e k l = by_case (split k i (omega (arith, l))) where
   by_case : (k ≡ i) ⊎ (k < i) → Stays moves k
   by_case (inl same) = subst (Stays moves) (sym same) e
   by_case (inr below) = h k below
+
+-- the move that stands at this place is none
+pub still_here : (moves : List (ℤ × ℤ)) (k : ℕ) (d : ℤ × ℤ) → k < length moves → slice_index_or moves k d ≡ (pos 0, pos 0) → Stays moves k
+still_here moves k d h e = ap (λ o. option_map_or (λ move. move) o (pos 0, pos 0)) (slice_get-get_or moves k d h) ∙ e
 
 below_or : (k i : ℕ) → (k < i) ⊎ (i ≤ k)
 below_or zero zero = inr (omega arith)

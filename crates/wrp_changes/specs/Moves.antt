@@ -135,3 +135,4 @@ pub record Changed (clocks : List ClockState → List ClockState → Type 0) (sp
   pub of_frames : frames old.frames new.frames
   pub spare : new.spare ≡ old.spare
   pub last_put : new.last_put ≡ old.last_put
+  pub top : new.top ≡ old.top

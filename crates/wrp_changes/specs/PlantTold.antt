@@ -121,6 +121,7 @@ pub record Told (news : News) (outs : List Output) (old new : Plant) : Type 0 wh
   pub of_clocks : EachBecame (At news.node (Steps (cycles_in outs) old.time (period_of old.net.cfg.clock) news.ticked)) old.clocks.items new.clocks.items
   pub of_spans : EachBecame (TellsAt old.time news outs old.net.cfg.links.items) old.spans.items new.spans.items
   pub of_frames : new.frames ≡ old.frames
+  pub top : new.top ≡ old.top
 
 -- The step of the definition that this is
 

@@ -2,6 +2,7 @@ pub mod EachLists
 pub mod FirstPorts
 pub mod FoundFrames
 pub mod FoundLinks
+pub mod Grandmasters
 pub mod KeptFrames
 pub mod KeptSince
 pub mod ListedModules

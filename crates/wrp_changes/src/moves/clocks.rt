@@ -8,15 +8,13 @@ ghost use Rattle.wrp_plant.specs.Sizes.{IsOff};
 use wrp_base::{Tau, sum};
 use wrp_course::ClockState;
 
-// How far a clock drifts, in tau.
+// How far a clock drifts, in tau, if it has an entry in `drifts`.
 fn drift_at(drifts: &[i64], n: usize) -> i64
+    requires { n < length drifts.now }
     ensures value { result ≡ drift_of drifts.now n }
     ensures size { unsigned_abs result ≤ 2 ^ 63 }
 {
-    match drifts.get(n) {
-        Some(drift) => *drift,
-        None => 0,
-    }
+    drifts[n]
 }
 
 // A clock drifts.
@@ -29,10 +27,22 @@ fn drift_by(clock: &mut ClockState, drift: i64)
 
 // A clock drifts by its entry in `drifts`.
 fn drift_one(clock: &mut ClockState, drifts: &[i64], n: usize)
-    requires { IsOff clock.old.off }
+    requires off { IsOff clock.old.off }
+    requires own { n < length drifts.now }
     ensures { Drifts drifts.now n clock.old clock.new }
 {
     drift_by(clock, drift_at(drifts, n));
+}
+
+// The same for a list of clocks. A clock without an entry in `drifts` stays: the loop ends before it.
+fn drift_all(clocks: &mut [ClockState], drifts: &[i64])
+    requires { Each (λ n clock. IsOff clock.off) clocks.old }
+    ensures { EachBecame (Drifts drifts.now) clocks.old clocks.new }
+{
+    let count = clocks.len().min(drifts.len());
+    for n in 0..count {
+        drift_one(&mut clocks[n], drifts, n);
+    }
 }
 
 /// Each clock drifts by its entry in `drifts`.
@@ -40,9 +50,7 @@ pub fn drift(clocks: &mut Vec<ClockState>, drifts: &[i64])
     requires { Each (λ n clock. IsOff clock.off) clocks.old.items }
     ensures { EachBecame (Drifts drifts.now) clocks.old.items clocks.new.items }
 {
-    for n in 0..clocks.len() {
-        drift_one(&mut clocks[n], drifts, n);
-    }
+    drift_all(clocks.as_mut_slice(), drifts);
 }
 
 /// A node's clock counts one more sample.

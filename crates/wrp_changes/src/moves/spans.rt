@@ -19,12 +19,19 @@ fn move_span(span: &mut Span, moves: &[(i64, i64)], k: usize)
     move_by(&mut span.fibre, down_at(moves, k), up_at(moves, k));
 }
 
+// Whether a move is 0 both ways.
+fn is_still(by: &(i64, i64)) -> bool
+    ensures { result ≡ true → by.now ≡ (pos 0, pos 0) }
+{
+    by.0 == 0 && by.1 == 0
+}
+
 // Whether neither delay of a fibre changes.
 fn stays_at(moves: &[(i64, i64)], k: usize) -> bool
     ensures { result ≡ true → move_of moves.now k ≡ (pos 0, pos 0) }
 {
     match moves.get(k) {
-        Some(by) => by.0 == 0 && by.1 == 0,
+        Some(by) => is_still(by),
         None => true,
     }
 }
@@ -40,16 +47,22 @@ fn move_one(span: &mut Span, moves: &[(i64, i64)], k: usize)
     }
 }
 
-// Whether no fibre changes.
+// The bits of the moves so far and of one more, down and up.
+fn gathered(bits: (i64, i64), by: &(i64, i64)) -> (i64, i64)
+    ensures { result ≡ (pos 0, pos 0) → (bits ≡ (pos 0, pos 0)) × (by.now ≡ (pos 0, pos 0)) }
+{
+    (bits.0 | by.0, bits.1 | by.1)
+}
+
+// Whether no fibre changes. The bits of all moves are gathered, and only they are tested.
 fn all_stay(moves: &[(i64, i64)]) -> bool
     ensures { result ≡ true → (k : ℕ) → move_of moves.now k ≡ (pos 0, pos 0) }
 {
-    for k in 0..moves.len() {
-        if !stays_at(moves, k) {
-            return false;
-        }
+    let mut bits = (0, 0);
+    for by in moves {
+        bits = gathered(bits, by);
     }
-    true
+    is_still(&bits)
 }
 
 // Changes the delays of each link by its entry in `moves`.

@@ -12,6 +12,7 @@ ghost use Rattle.wrp_plant.specs.Sizes.{IsHorizonBy, IsTimeBy};
 ghost use Rattle.wrp_course.specs.WorldAt.{new_world};
 
 use super::Plant;
+use super::tops::top_of;
 use crate::ends::{EndState, Span};
 use crate::times::frame_life as life;
 use std::alloc::{AllocError, Global};
@@ -38,6 +39,7 @@ impl Plant {
     {
         let start = start_of(&net.cfg);
         let horizon = horizon_of(&net.cfg, start);
+        let top = top_of(&net.cfg);
         let clocks = new_clocks(alloc, net.cfg.nodes.len(), start)?;
         let spans = new_spans(alloc, &net.db, net.cfg.links.as_slice())?;
         Ok(Plant {
@@ -49,6 +51,7 @@ impl Plant {
             frames: Frames::new(alloc, horizon),
             spare: 0,
             last_put: start,
+            top,
         })
     }
 }

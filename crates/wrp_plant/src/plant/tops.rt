@@ -1,7 +1,7 @@
 //! Which node is the grandmaster, and which node's link above is at the node's own place.
-ghost use Rattle.std.specs.Prelude.{◌≡◌, ◌==◌, ◌≤◌, ◌-◌, not, true, false, slice_get};
+ghost use Rattle.std.specs.Prelude.{◌≡◌, ◌==◌, ◌≤◌, ◌-◌, not, true, false, None, slice_get};
 ghost use Rattle.std.specs.Option.{is_some, option_map_or};
-ghost use Rattle.wrp_network.specs.Network.{link_above as link_over};
+ghost use Rattle.wrp_network.specs.Network.{IsTree, link_above as link_over};
 ghost use Rattle.wrp_plant.specs.Plant.{FitsPlant, PlantIs};
 ghost use Rattle.wrp_course.specs.Setting.{Setting};
 ghost use Rattle.wrp_course.specs.WorldAt.{WorldAt};
@@ -34,18 +34,43 @@ pub fn has_own_link(cfg: &NetCfg, n: u8) -> bool
     is_above(cfg, usize::from(n) - 1, n)
 }
 
+// Whether no link stands above a node. All links are searched.
+fn has_none_above(cfg: &NetCfg, n: u8) -> bool
+    ensures { result ≡ not (is_some (link_over cfg.now n)) }
+{
+    link_above(cfg, n).is_none()
+}
+
+/// The grandmaster of a network: the node that no link stands above.
+pub fn top_of(cfg: &NetCfg) -> u8
+    requires { IsTree cfg.now }
+    ensures { link_over cfg.now result ≡ None }
+{
+    let count = cfg.nodes.len() as u8;
+    for n in 0..count {
+        if has_none_above(cfg, n) {
+            return n;
+        }
+    }
+    unreachable!()
+}
+
 impl Plant {
-    /// Whether no link is above a node: then it is the grandmaster.
+    /// Whether no link is above a node: then it is the grandmaster. The links are searched only for a node that
+    /// is not the grandmaster and has no link at its own place.
     pub fn is_top(&self, n: u8) -> bool
         requires { FitsPlant self.now }
         ensures { (s : Setting) (w : WorldAt) → PlantIs s w self.now
             → result ≡ not (is_some (link_over s.cfg n)) }
     {
+        if n == self.top {
+            return true;
+        }
         let cfg = self.cfg();
         if has_own_link(cfg, n) {
             false
         } else {
-            link_above(cfg, n).is_none()
+            has_none_above(cfg, n)
         }
     }
 }

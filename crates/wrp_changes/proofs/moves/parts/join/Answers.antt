@@ -19,4 +19,5 @@ returns c =
       of_frames = refl;
       spare = refl;
       last_put = refl;
+      top = refl;
     })

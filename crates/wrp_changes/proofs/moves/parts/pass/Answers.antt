@@ -26,4 +26,5 @@ returns c =
       of_frames = subst (λ d. Passes (c.args.plant.now.frames.horizon +ℤ d) c.args.plant.now.frames c.pass.new.self) (to_z-of_z w64 c.args.dt c.ranges.dt) c.pass.ensures;
       spare = refl;
       last_put = refl;
+      top = refl;
     })

@@ -8,4 +8,4 @@ sampled-requires-clause-few c n x e = omega (arith, (c.requires.fits.clocks n x 
 pub returns : goal.returns
 returns c =
     subst (Changed _ _ _ _ c.args.plant.now) (sym c.count.ensures)
-    (record { cfg = refl; db = refl; time = refl; count = refl; of_clocks = c.sampled.ensures; of_spans = refl; of_frames = refl; spare = refl; last_put = refl })
+    (record { cfg = refl; db = refl; time = refl; count = refl; of_clocks = c.sampled.ensures; of_spans = refl; of_frames = refl; spare = refl; last_put = refl; top = refl })

@@ -50,4 +50,5 @@ returns-clause-fits c =
       room = no_steps 0 c.in_ok-spans.spans.items refl;
       puts = none_put _ c.args.net.db c.as_slice.result.now c.in_ok-spans.spans.items c.in_ok-spans.ensures.count c.in_ok-spans.ensures.each;
       put = never_later _;
+      top = c.top_of-top.ensures;
     }
