@@ -52,8 +52,8 @@ fn put_one(outs: &mut Vec<NodeOut>, gift: Gift) -> Result<(), AllocError>
     }
 }
 
-// Where no entry stands there, those that were laid aside do.
-fn take_up(outs: &mut Vec<NodeOut>, aside: &mut Vec<NodeOut>) {
+/// Where no entry stands there, those that were laid aside do.
+pub fn take_up(outs: &mut Vec<NodeOut>, aside: &mut Vec<NodeOut>) {
     if outs.is_empty() {
         swap(outs, aside);
     }
