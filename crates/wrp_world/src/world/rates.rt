@@ -118,15 +118,30 @@ impl<F: Fn(i64) -> i64> World<F> {
         if is_top { Some(0) } else { None }
     }
 
-    // A clock keeps its rate.
+    // A clock that moves this far keeps its rate.
+    fn drift_broken(&self, n: u8, dt: i64, drift: i64) -> Option<Breach>
+        requires valid { IsValid F.pre F.post self.now }
+        requires node { n < length self.now.nodes }
+        ensures { (s : Setting) (w : WorldAt) → StandsFor F.post s w self.now
+            → result ≡ told_of (premise.rate_checks drift dt (premise.rate_of s w n)) }
+    {
+        let rate = self.rate(n);
+        rate_kept(drift, dt, rate)
+    }
+
+    // A clock keeps its rate. A clock that does not move keeps every rate, so its rate is not looked up.
     fn rate_broken(&self, n: u8, dt: i64, drifts: &ArrayVec<i64, 64>) -> Option<Breach>
         requires valid { IsValid F.pre F.post self.now }
         requires node { n < length self.now.nodes }
         ensures { (s : Setting) (w : WorldAt) → StandsFor F.post s w self.now
             → result ≡ told_of (premise.rate_kept s w dt drifts.now.items n) }
     {
-        let rate = self.rate(n);
-        rate_kept(drift_at(drifts.as_slice(), n), dt, rate)
+        let drift = drift_at(drifts.as_slice(), n);
+        if drift == 0 {
+            None
+        } else {
+            self.drift_broken(n, dt, drift)
+        }
     }
 
     // All clocks keep their rates.
