@@ -50,7 +50,7 @@ quiet_port now news outs p x q = record {
   tx = refl;
   rx = refl;
   waiting = sym (ap (λ fs. x.waiting.items ++ map (put_at now) fs) (none_sent p outs q.silent) ∙ append-nil x.waiting.items);
-  marks = sym (ap (λ ms. x.marks.items ++ ms) (no_mark now (state_in p news.before.items) (state_in p news.after.items) news (q.states p)) ∙ append-nil x.marks.items);
+  marks = sym (ap (λ ms. x.marks.items ++ ms) (no_mark now (state_in p news.before.now.items) (state_in p news.after.now.items) news (q.states p)) ∙ append-nil x.marks.items);
 }
 
 quiet_where : (b : Bool) (now : ℤ) (news : News) (outs : List Output) (p : ℕ) (x : EndState) → IsQuiet news outs → Where b (TellsPort now news outs p) x x

@@ -78,7 +78,7 @@ end_is s v g step news outs p now at x y t m q r h = record {
       subst (λ (l : List PutOut). AllZip PutOutIs (at.waiting ++ map (sending v) (step.sends p)) l) (sym r.waiting)
       (zip_append PutOutIs at.waiting (map (sending v) (step.sends p)) x.waiting.items (map (put_at now) (frames_at p outs)) h.waiting
       (sent_zip v now t (step.sends p) (frames_at p outs) q.frames));
-  marks = r.marks ∙ marks_are now v.time (state_in p news.before.items) (state_in p news.after.items) _ _ news.by (mover_of g g.input) at.marks x.marks.items t q.before q.after m h.marks;
+  marks = r.marks ∙ marks_are now v.time (state_in p news.before.now.items) (state_in p news.after.now.items) _ _ news.by (mover_of g g.input) at.marks x.marks.items t q.before q.after m h.marks;
 }
 
 end_where : (b : Bool) (s : Setting) (v : WorldAt) (g : Given) (step : Step) (news : News) (outs : List Output) (p : ℕ) (now : ℤ) (at : EndAt) (x y : EndState) →

@@ -55,7 +55,7 @@ pub record SameRow (before after : PortState) : Type 0 where
 -- the step sends nothing and changes no link state
 pub record IsQuiet (news : News) (outs : List Output) : Type 0 where
   pub silent : sends outs ≡ false
-  pub states : (p : ℕ) → is_same (state_in p news.before.items) (state_in p news.after.items) ≡ true
+  pub states : (p : ℕ) → is_same (state_in p news.before.now.items) (state_in p news.after.now.items) ≡ true
 
 -- How it changes the memory that was taken
 
@@ -89,7 +89,7 @@ pub record Tells (now : ℤ) (frames : List (List ℕ)) (from to : LinkState) (b
 -- the same at a port of the node
 abbrev pub TellsPort : ℤ → News → List Output → ℕ → (old new : EndState) → Type 0
 TellsPort now news outs p old new =
-    Tells now (frames_at p outs) (state_in p news.before.items) (state_in p news.after.items) news.by old new
+    Tells now (frames_at p outs) (state_in p news.before.now.items) (state_in p news.after.now.items) news.by old new
 
 -- the same at the ends of a link that belong to the node
 pub record TellsSpan (now : ℤ) (news : News) (outs : List Output) (link : LinkCfg) (old new : Span) : Type 0 where
@@ -133,8 +133,8 @@ pub record IsSent (message : PtpMsg) (sent : List ℕ) : Type 0 where
 -- what is reported about a port is what the step made of it
 pub record IsPortOf (s : Setting) (v : WorldAt) (g : Given) (step : Step) (news : News) (outs : List Output) (p : ℕ) : Type 0 where
   pub frames : AllZip IsSent (step.sends p) (frames_at p outs)
-  pub before : state_in p news.before.items ≡ (link_at (s.set g.to) (v.node g.to) p).state
-  pub after : state_in p news.after.items ≡ (link_at (s.set g.to) step.node p).state
+  pub before : state_in p news.before.now.items ≡ (link_at (s.set g.to) (v.node g.to) p).state
+  pub after : state_in p news.after.now.items ≡ (link_at (s.set g.to) step.node p).state
 
 -- what is reported is this step of the node for this input, at each of its ports that has a link
 pub record IsStepOf (s : Setting) (v : WorldAt) (g : Given) (step : Step) (news : News) (outs : List Output) : Type 0 where

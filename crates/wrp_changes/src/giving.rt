@@ -4,6 +4,7 @@ mod ends;
 mod frames;
 mod links;
 mod listing;
+mod reused;
 mod single;
 mod up;
 
@@ -29,7 +30,8 @@ use down::give_down;
 use frames::{gift_of_departure, gift_of_frame, sent_at};
 use links::{give_cut, give_join};
 use listing::{Gift, lay_aside, put};
-use single::{gift_of_noise, gift_of_sample, gift_of_tick};
+use reused::{put_sample, put_tick};
+use single::gift_of_noise;
 use std::alloc::AllocError;
 use up::give_up;
 use wrp_base::{Frame, Raw, Tau};
@@ -64,11 +66,10 @@ fn list(
     put(outs, aside, gift)
 }
 
-// Each kind of event that gives one input has a function of its own that lists it. Such a function clears room
-// for the input when it is called, and other events are not slowed down by that.
+// A departure, a frame and octets are each listed in a call of their own. Such a call clears room for the input when
+// it begins, and other events are not slowed down by that.
 
 // Lists the input of a tick.
-#[inline(never)]
 fn list_tick(
     plant: &Plant,
     n: u8,
@@ -78,11 +79,10 @@ fn list_tick(
     requires { n < node_count plant.now.net.cfg }
     ensures { OnOk result (Gives plant.now (event.Tick n) outs.new.items) }
 {
-    list(plant, gift_of_tick(plant, n), outs, aside)
+    put_tick(outs, aside, n)
 }
 
 // Lists the input of a sample.
-#[inline(never)]
 fn list_sample(
     plant: &Plant,
     n: u8,
@@ -97,7 +97,8 @@ fn list_sample(
     requires few { plant.now.events + 1 < 2 ^ 32 }
     ensures { OnOk result (Gives plant.now (event.Sample n base bits) outs.new.items) }
 {
-    list(plant, gift_of_sample(plant, n, base, bits), outs, aside)
+    let number = plant.clock(n).samples + 1;
+    put_sample(outs, aside, n, number, base, bits)
 }
 
 // Lists the input of a departure, if it has one.

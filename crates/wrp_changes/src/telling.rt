@@ -20,17 +20,17 @@ use wrp_base::{Tau, WrMsg};
 use wrp_node::{Output, PortStates};
 use wrp_plant::Plant;
 
-/// What is reported of a node's step, apart from its outputs.
-#[derive(Debug, Drop)]
-pub struct News {
+/// What is reported of a node's step, apart from its outputs. The link states are borrowed, so nothing copies them.
+#[derive(Drop)]
+pub struct News<'a> {
     /// The node.
     pub node: u8,
     /// Whether it was given a tick.
     pub ticked: bool,
     /// The link states of its ports before the step.
-    pub before: PortStates,
+    pub before: &'a PortStates,
     /// The link states of its ports after the step.
-    pub after: PortStates,
+    pub after: &'a PortStates,
     /// The White Rabbit message that it was given, if it was one, with the true time at which the message
     /// was put out, in tau.
     pub by: Option<(WrMsg, Tau)>,
@@ -58,7 +58,7 @@ fn note(plant: &mut Plant, sends: bool)
 }
 
 // Steps a node's clock, and notes its tick.
-fn step_clock(plant: &mut Plant, news: &News, outs: &[Output])
+fn step_clock(plant: &mut Plant, news: &News<'_>, outs: &[Output])
     requires fits { FitsPlant plant.old }
     requires node { news.now.node < length plant.old.net.cfg.nodes.items }
     ensures same { plant.new ≡ record plant.old { clocks = plant.new.clocks } }
@@ -78,7 +78,7 @@ fn step_clock(plant: &mut Plant, news: &News, outs: &[Output])
 }
 
 // Whether a step sends nothing and changes no link state.
-fn is_quiet(news: &News, outs: &[Output]) -> bool
+fn is_quiet(news: &News<'_>, outs: &[Output]) -> bool
     ensures { result ≡ true → IsQuiet news.now outs.now }
 {
     if reads::sends(outs) {
@@ -89,7 +89,7 @@ fn is_quiet(news: &News, outs: &[Output]) -> bool
 }
 
 // Reports a step to the ends of the node's links.
-fn tell_ends(plant: &mut Plant, news: &News, outs: &[Output])
+fn tell_ends(plant: &mut Plant, news: &News<'_>, outs: &[Output])
     requires time { IsTime plant.old.time }
     requires few { SendsFew outs.now }
     requires room { HasRoom 1 plant.old }
@@ -108,7 +108,7 @@ fn tell_ends(plant: &mut Plant, news: &News, outs: &[Output])
 
 // The same. If the step sends nothing and changes no link state, no end is looked at, and the room that was
 // taken is kept.
-fn tell_where(plant: &mut Plant, news: &News, outs: &[Output])
+fn tell_where(plant: &mut Plant, news: &News<'_>, outs: &[Output])
     requires time { IsTime plant.old.time }
     requires few { SendsFew outs.now }
     requires room { HasRoom 1 plant.old }
@@ -120,7 +120,7 @@ fn tell_where(plant: &mut Plant, news: &News, outs: &[Output])
 }
 
 // Reports a node's step to all parts.
-fn tell(plant: &mut Plant, news: &News, outs: &[Output])
+fn tell(plant: &mut Plant, news: &News<'_>, outs: &[Output])
     requires fits { FitsPlant plant.old }
     requires node { news.now.node < length plant.old.net.cfg.nodes.items }
     requires few { SendsFew outs.now }
@@ -138,7 +138,7 @@ fn tell(plant: &mut Plant, news: &News, outs: &[Output])
 /// Reports a node's step to the rest of the world: the clock moves by the periods among the outputs, a tick
 /// is noted, each frame among the outputs waits at its port's end, and each changed link state is marked.
 /// The memory for this was taken before.
-pub fn told(plant: &mut Plant, news: &News, outs: &[Output])
+pub fn told(plant: &mut Plant, news: &News<'_>, outs: &[Output])
     requires fits { FitsPlant plant.old }
     requires node { news.now.node < length plant.old.net.cfg.nodes.items }
     requires few { SendsFew outs.now }

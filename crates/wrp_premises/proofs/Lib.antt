@@ -1,3 +1,4 @@
+mod BeatBits
 pub mod Counting
 pub mod HandedFrames
 pub mod JoinedLinks

@@ -1,5 +1,7 @@
 -- The checks of the rates of clocks, and of time that passes.
-use Rattle.std.proofs.Common.{◌≡◌, ◌∙◌, refl, ap, ap₂, sym, subst, ℕ, ◌≤◌, ℤ, pos, ◌+◌, Bool, true, false, not, if◌then◌else◌, List, length, map, flat_map, Option, None, Some, IfSome, slice_get, arith}
+use Rattle.std.proofs.Common.{◌≡◌, ◌∙◌, refl, ap, ap₂, sym, subst, ℕ, ◌≤◌, ◌*◌, ℤ, pos, unsigned_abs, ◌+◌, Bool, true, false, not, if◌then◌else◌, List, [], ◌∷◌, length, map, flat_map, Option, None, Some, IfSome, slice_get, arith}
+use Rattle.std.proofs.lemmas.Int.{ints}
+use Rattle.std.specs.Int.Signed.{le_z}
 use Rattle.std.specs.Option.{is_some, option_map_or}
 use Rattle.wrp_base.specs.declared.link.ServoState.{ServoState}
 use Rattle.wrp_network.specs.declared.network.NodeCfg.{NodeCfg}
@@ -9,10 +11,11 @@ use Rattle.wrp_node.specs.NodeAt.{locked_of, state_of}
 use Rattle.wrp_course.specs.Checks.{told_of}
 use Rattle.wrp_course.specs.declared.clocks.ClockState.{ClockState}
 use Rattle.wrp_plant.specs.Plant.{Each}
-use Rattle.wrp_course.specs.Premises.{fibre_rate, late_by, rate_of, rate_of_fibre, tick_late}
+use Rattle.wrp_course.specs.Premises.{fibre_rate, late_by, moves_at, rate_checks, rate_of, rate_of_fibre, tick_late}
 use Rattle.wrp_course.specs.Setting.{Setting, node_setting_of, from_on, links_of, nodes_of}
 use Rattle.wrp_premises.specs.Tried.{kept_rate, steered_rate}
 use Rattle.wrp_course.specs.WorldAt.{WorldAt}
+use Rattle.wrp_course.proofs.Told.{holds_first}
 use Rattle.wrp_premises.proofs.Counting.{flat_numbers, map_numbers}
 
 -- The rate that a clock keeps
@@ -76,3 +79,20 @@ rates_told s dt moves e =
     ap told_of (flat_numbers (rate_of_fibre dt) (fibre_rate dt moves) moves 0
     (λ k x f. ap (rate_of_fibre dt) (sym (ap (λ o. option_map_or (λ move. move) o (pos 0, pos 0)) f)) ∙ ap (fibre_rate dt moves) (from_first k))
     ∙ ap (λ m. flat_map (fibre_rate dt moves) (numbers m)) e)
+
+-- What does not move keeps every rate
+
+never_more : (x : ℕ) → not (le_z (pos 0) (pos x)) ≡ false
+never_more x = grind (arith, ints)
+
+pub still_move : (premise rate : ℕ) (dt : ℤ) → (moves_at premise (pos 0) dt rate).fails ≡ false
+still_move premise rate dt = never_more (rate * unsigned_abs dt)
+
+pub still_clock : (drift dt : ℤ) (rate : Option ℕ) → drift ≡ pos 0 → None ≡ told_of (rate_checks drift dt rate)
+still_clock drift dt None e = refl
+still_clock drift dt (Some rate) e = subst (λ d. None ≡ told_of (rate_checks d dt (Some rate))) (sym e) (holds_first (moves_at 3 (pos 0) dt rate) [] (still_move 3 rate dt))
+
+pub still_fibre : (move : ℤ × ℤ) (dt : ℤ) → move ≡ (pos 0, pos 0) → None ≡ told_of (rate_of_fibre dt move)
+still_fibre move dt e =
+    subst (λ m. None ≡ told_of (rate_of_fibre dt m)) (sym e)
+    (holds_first (moves_at 4 (pos 0) dt 2) [] (still_move 4 2 dt) ∙ holds_first (moves_at 4 (pos 0) dt 2) (moves_at 4 (pos 0) dt 2 ∷ []) (still_move 4 2 dt))

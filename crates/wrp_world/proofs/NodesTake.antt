@@ -10,12 +10,14 @@ use Rattle.wrp_node.specs.Control.{law_in}
 use Rattle.wrp_node.specs.declared.interface.Input.{Input}
 use Rattle.wrp_node.specs.declared.interface.Input.TheVariants.{Tick, Sample, Frame, Sent, Carrier, Reset}
 use Rattle.wrp_node.specs.declared.interface.Output.{Output}
-use Rattle.wrp_node.specs.Node.{FitsInput, IsValid as NodeIsValid}
+use Rattle.wrp_node.specs.Node.{FitsInput, IsValid as NodeIsValid, Tells as NodeTells, is_tick}
 use Rattle.wrp_node.specs.NodeAt.{NodeSetting, NodeAt, Taken, numbers_of}
 use Rattle.wrp_node.specs.NodeRun.{IsSaid, node_after}
 use Rattle.wrp_node.specs.Parts.{is_among}
 use Rattle.wrp_node.specs.Set.{set_of}
 use Rattle.wrp_node.specs.StandsFor.{NodeOf, StandsFor as NodeStandsFor, Took}
+use Rattle.wrp_node.specs.declared.ports.states.PortState.{PortState}
+use Rattle.wrp_node.specs.States.{state_at, state_in}
 use Rattle.wrp_node.specs.StepLaws.{is_frame, ticks_by}
 use Rattle.wrp_node.specs.Telling.{Step}
 use Rattle.std.specs.Int.{w128}
@@ -26,8 +28,8 @@ use Rattle.wrp_plant.specs.declared.plant.Plant.{Plant}
 use Rattle.wrp_changes.specs.declared.telling.News.{News}
 use Rattle.wrp_changes.specs.FitsGifts.{FitsGift, FitsNode}
 use Rattle.wrp_course.specs.Setting.{has_port}
-use Rattle.wrp_changes.specs.Gifts.{GiftIs}
-use Rattle.wrp_course.specs.Given.{Given, NodeStepAt, gives, node_step_of, step_of, stepped_by, taken_of}
+use Rattle.wrp_changes.specs.Gifts.{GiftIs, IsRead}
+use Rattle.wrp_course.specs.Given.{Given, NodeStepAt, gives, mover_of, node_step_of, step_of, stepped_by, taken_of}
 use Rattle.wrp_plant.specs.Plant.{Each, FitsPlant, PlantIs}
 use Rattle.wrp_changes.specs.PlantTold.{IsStepOf, MayStep, SendsFew}
 use Rattle.wrp_course.specs.Setting.{Setting, node_setting_of}
@@ -265,6 +267,22 @@ fits_input pre post world n Reset node v at h a = tt
 pub news_read : {F : Type 0} (post : F → ℤ → ℤ → Type 0) (put : ℤ) (old new : NodeOf F) (out : NodeOut) (news : News) → FitsSigned w128 put →
     IsNewsOf post (to_z w128 (of_z w128 put)) old new out news → IsNewsOf post put old new out news
 news_read post put old new out news fits h = subst (λ z. IsNewsOf post z old new out news) (to_z-of_z w128 put fits) h
+
+-- What is reported, as it is read after the step: the step changes neither the node's number nor its input
+
+pub news_by_parts : {F : Type 0} (post : F → ℤ → ℤ → Type 0) (put : ℤ) (old new : NodeOf F) (before after : NodeOut) (news : News) (here there : List PortState) →
+    after.node ≡ before.node → after.input ≡ before.input → news.node ≡ after.node → news.ticked ≡ is_tick after.input →
+    ((g : Given) → IsRead put g.says g.at after.input → news.by ≡ mover_of g after.input) →
+    news.before.now.items ≡ here → news.after.now.items ≡ there →
+    ((p : ℕ) → is_among p old.parts.ports ≡ true → NodeTells post (state_at p) old (state_in p here)) →
+    ((p : ℕ) → is_among p new.parts.ports ≡ true → NodeTells post (state_at p) new (state_in p there)) → IsNewsOf post put old new before news
+news_by_parts post put old new before after news here there n x a t b d e f g = record {
+  node = a ∙ n;
+  ticked = t ∙ ap is_tick x;
+  by = subst (λ (i : Input). (q : Given) → IsRead put q.says q.at i → news.by ≡ mover_of q i) x b;
+  before = subst (λ (rows : List PortState). (p : ℕ) → is_among p old.parts.ports ≡ true → NodeTells post (state_at p) old (state_in p rows)) (sym d) f;
+  after = subst (λ (rows : List PortState). (p : ℕ) → is_among p new.parts.ports ≡ true → NodeTells post (state_at p) new (state_in p rows)) (sym e) g;
+}
 
 -- As the code has it: the world is its plant and its nodes, one of which is borrowed
 

@@ -64,10 +64,10 @@ pub record IsNewsOf {F : Type 0} (post : F → ℤ → ℤ → Type 0) (put : �
   pub by : (g : Given) → IsRead put g.says g.at out.input → news.by ≡ mover_of g out.input
   pub before :
       (p : ℕ) → is_among p old.parts.ports ≡ true →
-      NodeTells post (state_at p) old (state_in p news.before.items)
+      NodeTells post (state_at p) old (state_in p news.before.now.items)
   pub after :
       (p : ℕ) → is_among p new.parts.ports ≡ true →
-      NodeTells post (state_at p) new (state_in p news.after.items)
+      NodeTells post (state_at p) new (state_in p news.after.now.items)
 
 -- What a world becomes
 

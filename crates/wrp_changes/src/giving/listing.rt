@@ -52,8 +52,8 @@ fn put_one(outs: &mut Vec<NodeOut>, gift: Gift) -> Result<(), AllocError>
     }
 }
 
-// If there is no entry, takes the ones that were laid aside.
-fn take_up(outs: &mut Vec<NodeOut>, aside: &mut Vec<NodeOut>) {
+/// If there is no entry, takes the ones that were laid aside.
+pub fn take_up(outs: &mut Vec<NodeOut>, aside: &mut Vec<NodeOut>) {
     if outs.is_empty() {
         swap(outs, aside);
     }

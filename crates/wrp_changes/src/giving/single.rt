@@ -1,4 +1,4 @@
-//! The input of an event that gives at most one.
+//! The input of octets that the peer did not send.
 ghost use Rattle.std.specs.Prelude.{◌≡◌, ◌<◌, ◌≤◌, ◌+◌, ◌^◌, length};
 ghost use Rattle.wrp_network.specs.Network.{node_count};
 ghost use Rattle.wrp_course.specs.declared.event.Event.TheVariants as event;
@@ -12,37 +12,6 @@ use wrp_base::{Frame, Raw};
 use wrp_course::place_of;
 use wrp_node::Input;
 use wrp_plant::Plant;
-
-/// The input of a tick. Never `None`.
-pub fn gift_of_tick(plant: &Plant, n: u8) -> Option<Gift>
-    requires { n < node_count plant.now.net.cfg }
-    ensures { Gives plant.now (event.Tick n) (entries_of result) }
-{
-    Some(Gift {
-        node: n,
-        input: Input::Tick,
-    })
-}
-
-/// The input of a sample: its number is one more than the node's samples so far, and `base` is at
-/// most 16,383. Never `None`.
-pub fn gift_of_sample(plant: &Plant, n: u8, base: u16, bits: u64) -> Option<Gift>
-    requires fits { FitsPlant plant.now }
-    requires node { n < node_count plant.now.net.cfg }
-    requires base { base ≤ 16_383 }
-    requires few { plant.now.events + 1 < 2 ^ 32 }
-    ensures { Gives plant.now (event.Sample n base bits) (entries_of result) }
-{
-    let number = plant.clock(n).samples + 1;
-    Some(Gift {
-        node: n,
-        input: Input::Sample {
-            n: number,
-            base,
-            bits,
-        },
-    })
-}
 
 /// The input of octets that the peer did not send. `None` if no link has that port.
 pub fn gift_of_noise(plant: &Plant, n: u8, port: u16, bytes: &Frame, raw: Raw) -> Option<Gift>

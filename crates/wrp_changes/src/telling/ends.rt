@@ -83,7 +83,7 @@ fn mark(marks: &mut Vec<Mark>, now: Tau, from: LinkState, to: LinkState, by: Opt
 }
 
 // Reports a node's step to the end of one of its ports.
-fn tell_end(end: &mut EndState, port: u16, now: Tau, news: &News, outs: &[Output])
+fn tell_end(end: &mut EndState, port: u16, now: Tau, news: &News<'_>, outs: &[Output])
     requires few { length (frames_at port outs.now) ≤ 4 }
     requires room { HasEndRoom 1 end.old }
     ensures told { TellsPort now news.now outs.now port end.old end.new }
@@ -96,7 +96,14 @@ fn tell_end(end: &mut EndState, port: u16, now: Tau, news: &News, outs: &[Output
 }
 
 // The same, if the end belongs to the node.
-fn tell_where(end: &mut EndState, is_its: bool, port: u16, now: Tau, news: &News, outs: &[Output])
+fn tell_where(
+    end: &mut EndState,
+    is_its: bool,
+    port: u16,
+    now: Tau,
+    news: &News<'_>,
+    outs: &[Output],
+)
     requires few { length (frames_at port outs.now) ≤ 4 }
     requires room { HasEndRoom 1 end.old }
     ensures told { Where is_its (TellsPort now news.now outs.now port) end.old end.new }
@@ -108,7 +115,7 @@ fn tell_where(end: &mut EndState, is_its: bool, port: u16, now: Tau, news: &News
 }
 
 // Reports a node's step to the ends of a link that belong to the node.
-fn tell_both(span: &mut Span, link: &LinkCfg, now: Tau, news: &News, outs: &[Output])
+fn tell_both(span: &mut Span, link: &LinkCfg, now: Tau, news: &News<'_>, outs: &[Output])
     requires few { SendsFew outs.now }
     requires room { HasSpanRoom 1 span.old }
     ensures told { TellsSpan now news.now outs.now link.now span.old span.new }
@@ -133,7 +140,7 @@ fn tell_both(span: &mut Span, link: &LinkCfg, now: Tau, news: &News, outs: &[Out
 }
 
 // The same, but quick for a link none of whose ends belongs to the node.
-fn tell_link(span: &mut Span, link: &LinkCfg, now: Tau, news: &News, outs: &[Output])
+fn tell_link(span: &mut Span, link: &LinkCfg, now: Tau, news: &News<'_>, outs: &[Output])
     requires few { SendsFew outs.now }
     requires room { HasSpanRoom 1 span.old }
     ensures told { TellsSpan now news.now outs.now link.now span.old span.new }
@@ -145,7 +152,7 @@ fn tell_link(span: &mut Span, link: &LinkCfg, now: Tau, news: &News, outs: &[Out
 }
 
 // The same for the link with this number.
-fn tell_number(span: &mut Span, cfg: &NetCfg, k: usize, now: Tau, news: &News, outs: &[Output])
+fn tell_number(span: &mut Span, cfg: &NetCfg, k: usize, now: Tau, news: &News<'_>, outs: &[Output])
     requires few { SendsFew outs.now }
     requires room { HasSpanRoom 1 span.old }
     ensures told { TellsAt now news.now outs.now cfg.now.links.items k span.old span.new }
@@ -158,7 +165,7 @@ fn tell_number(span: &mut Span, cfg: &NetCfg, k: usize, now: Tau, news: &News, o
 }
 
 /// Reports a node's step to the ends of all links that belong to the node.
-pub fn tell(spans: &mut Vec<Span>, cfg: &NetCfg, now: Tau, news: &News, outs: &[Output])
+pub fn tell(spans: &mut Vec<Span>, cfg: &NetCfg, now: Tau, news: &News<'_>, outs: &[Output])
     requires few { SendsFew outs.now }
     requires room { Each (λ k. HasSpanRoom 1) spans.old.items }
     ensures told { EachBecame (TellsAt now news.now outs.now cfg.now.links.items) spans.old.items spans.new.items }

@@ -1,7 +1,8 @@
 //! Which beat bits a sample may have: premise 9.
-ghost use Rattle.std.specs.Prelude.{◌≡◌, ◌<◌, ◌≤◌, ◌==◌, ◌&&◌, ◌+ℤ◌, ◌-ℤ◌, pos, unsigned_abs, not, map, [], ◌∷◌};
+ghost use Rattle.std.specs.Prelude.{◌≡◌, ◌<◌, ◌≤◌, ◌==◌, ◌&&◌, ◌+ℤ◌, ◌-ℤ◌, ◌<ℤ◌, ◌≤ℤ◌, ◌*◌, ◌^◌, ℕ, pos, unsigned_abs, not, true, false, map, [], ◌∷◌};
+ghost use Rattle.std.specs.Int.{int_rem_euclid};
 ghost use Rattle.std.specs.Int.Signed.{le_z, lt_z};
-ghost use Rattle.wrp_base.specs.Clock.{steps_of_period};
+ghost use Rattle.wrp_base.specs.Clock.{period_of, step_of, steps_of_period};
 ghost use Rattle.wrp_phase.specs.Beat.{beat_bit};
 ghost use Rattle.wrp_phase.specs.BeatPattern.{true_step, steps_past};
 ghost use Rattle.wrp_course.specs.Checks.{told_of};
@@ -11,13 +12,32 @@ ghost use Rattle.wrp_course.specs.Setting.{from_on};
 use wrp_base::{Clock, Tau};
 use wrp_course::Breach;
 
+// One step of the phase detector, in tau.
+fn step(clock: Clock) -> u64
+    ensures value { result ≡ step_of clock }
+    ensures whole { period_of clock ≡ 16384 * result }
+    ensures least { 1 ≤ result }
+{
+    match clock {
+        Clock::Mhz125 => 32_000,
+        Clock::Mhz62 => 64_000,
+    }
+}
+
+// The place of a true phase in its period, in tau.
+fn place(clock: Clock, phase: Tau) -> u64
+    ensures value { result ≡ unsigned_abs (int_rem_euclid phase (pos (period_of clock))) }
+    ensures most { result < period_of clock }
+{
+    phase.rem_euclid(clock.period()).unsigned_abs() as u64
+}
+
 // The detector step of a true phase.
 fn true_step(clock: Clock, phase: Tau) -> u16
     ensures value { result ≡ true_step clock phase }
     ensures most { result < steps_of_period }
 {
-    let place = phase.rem_euclid(clock.period()).unsigned_abs();
-    (place / clock.step().unsigned_abs()) as u16
+    (place(clock, phase) / step(clock)) as u16
 }
 
 // How many steps this is past the base, from -8192 to 8191.
@@ -49,7 +69,8 @@ fn first_one(steps: i32, beat: u16) -> i32
 // The first place at which a beat bit may not be 0.
 fn first_sure(steps: i32, beat: u16) -> i32
     requires { unsigned_abs steps ≤ 8192 }
-    ensures { result ≡ steps +ℤ pos beat }
+    ensures value { result ≡ steps +ℤ pos beat }
+    ensures size { unsigned_abs result ≤ 2 ^ 17 }
 {
     steps + i32::from(beat)
 }
@@ -95,8 +116,34 @@ fn bit_kept(steps: i32, beat: u16, bits: u64, i: u8) -> Option<Breach>
     }
 }
 
-// Checks that no beat bit is wrong if the true step is this many steps past the base.
-fn bits_kept(steps: i32, beat: u16, bits: u64) -> Option<Breach>
+// Whether the bits have so many leading zeros that all beat bits before this place are 0.
+fn is_blank_before(first: i32, bits: u64) -> bool
+    ensures { result ≡ true → (i : ℕ) → i < 64 → pos i <ℤ first → beat_bit bits i ≡ 0 }
+{
+    first < 0 || first.unsigned_abs() <= bits.leading_zeros()
+}
+
+// Whether the bits have so many trailing ones that all beat bits from this place on are 1. If all bits are 1, the answer
+// is false.
+fn is_set_from(sure: i32, bits: u64) -> bool
+    requires { unsigned_abs sure ≤ 2 ^ 17 }
+    ensures { result ≡ true → (i : ℕ) → i < 64 → sure ≤ℤ pos i → beat_bit bits i ≡ 1 }
+{
+    0 <= sure && bits < u64::MAX && 64 <= sure.unsigned_abs() + bits.trailing_ones()
+}
+
+// Whether the leading zeros and the trailing ones show that no beat bit is wrong.
+fn are_right(steps: i32, beat: u16, bits: u64) -> bool
+    requires { unsigned_abs steps ≤ 8192 }
+    ensures { result ≡ true → (i : ℕ) → i < 64 → premise.is_wrong steps beat bits i ≡ false }
+{
+    is_blank_before(first_one(steps, beat), bits) && is_set_from(first_sure(steps, beat), bits)
+}
+
+// The first beat bit that is wrong. The bits are looked at one by one.
+#[cold]
+#[inline(never)]
+fn first_wrong(steps: i32, beat: u16, bits: u64) -> Option<Breach>
     requires { unsigned_abs steps ≤ 8192 }
     ensures { result ≡ told_of (map (premise.bit_check steps beat bits) (from_on 64 0)) }
 {
@@ -106,6 +153,18 @@ fn bits_kept(steps: i32, beat: u16, bits: u64) -> Option<Breach>
         }
     }
     None
+}
+
+// Checks that no beat bit is wrong if the true step is this many steps past the base.
+fn bits_kept(steps: i32, beat: u16, bits: u64) -> Option<Breach>
+    requires { unsigned_abs steps ≤ 8192 }
+    ensures { result ≡ told_of (map (premise.bit_check steps beat bits) (from_on 64 0)) }
+{
+    if are_right(steps, beat, bits) {
+        None
+    } else {
+        first_wrong(steps, beat, bits)
+    }
 }
 
 /// Premise 9: no beat bit of a sample is wrong if the true phase is `phase`, in tau. `base` is

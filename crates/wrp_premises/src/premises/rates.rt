@@ -1,5 +1,5 @@
 //! How fast clocks and fibres may change: premises 3 and 4.
-ghost use Rattle.std.specs.Prelude.{◌≡◌, ◌*◌, ◌≤◌, pos, unsigned_abs, not, [], ◌∷◌, flat_map, IfSome};
+ghost use Rattle.std.specs.Prelude.{◌≡◌, ◌*◌, ◌≤◌, pos, unsigned_abs, not, true, [], ◌∷◌, flat_map, IfSome};
 ghost use Rattle.wrp_course.specs.Checks.{told_of, only_where, size_of};
 ghost use Rattle.wrp_course.specs.Checks as spec;
 ghost use Rattle.wrp_course.specs.Premises as premise;
@@ -64,14 +64,28 @@ pub fn true_at_top(is_top: bool, off: Tau) -> Option<Breach>
     }
 }
 
-// Checks that the delays of a fibre keep within their rate. The delay down is checked first.
-fn fibre_rate(dt: i64, by: &(i64, i64)) -> Option<Breach>
+// Checks that the delays of a fibre that changes keep within their rate. The delay down is checked first.
+fn moved_rate(dt: i64, by: &(i64, i64)) -> Option<Breach>
     ensures { result ≡ told_of (premise.rate_of_fibre dt by.now) }
 {
     match moves_at(4, by.0, dt, FIBRE_RATE) {
         Some(breach) => Some(breach),
         None => moves_at(4, by.1, dt, FIBRE_RATE),
     }
+}
+
+// Whether neither delay of a fibre changes.
+fn stays(by: &(i64, i64)) -> bool
+    ensures { result ≡ true → by.now ≡ (pos 0, pos 0) }
+{
+    by.0 == 0 && by.1 == 0
+}
+
+// Checks that the delays of a fibre keep within their rate. Delays that do not change keep within every rate.
+fn fibre_rate(dt: i64, by: &(i64, i64)) -> Option<Breach>
+    ensures { result ≡ told_of (premise.rate_of_fibre dt by.now) }
+{
+    if stays(by) { None } else { moved_rate(dt, by) }
 }
 
 /// Premise 4: the delays of all fibres keep within their rate if they change by `moves` (down and

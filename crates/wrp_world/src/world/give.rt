@@ -11,7 +11,7 @@ ghost use Rattle.wrp_changes.specs.FitsGifts.{FitsGift};
 ghost use Rattle.wrp_changes.specs.Gifts.{IsRead};
 ghost use Rattle.wrp_course.specs.Given.{Given, in_body, in_frame, mover_of};
 ghost use Rattle.wrp_world.specs.Taking.{AreOfNodes, Asks, FirstAsks, Gave, GaveAll};
-ghost use Rattle.wrp_world.specs.Taking.{IsNewsOf, is_signaling, laws_of};
+ghost use Rattle.wrp_world.specs.Taking.{is_signaling, laws_of};
 ghost use Rattle.wrp_changes.specs.Room.{HasRoom};
 ghost use Rattle.wrp_world.specs.StandsFor.{IsValid};
 
@@ -20,7 +20,7 @@ use wrp_base::{Body, Tau, WrMsg};
 use wrp_changes::{News, told};
 use wrp_course::NodeOut;
 use wrp_frame::decode;
-use wrp_node::{Input, Node};
+use wrp_node::{Input, Node, PortStates};
 
 impl<F: Fn(i64) -> i64> World<F> {
     // The nodes take their inputs, in order. If one is a frame, it was put out at the true time
@@ -56,13 +56,17 @@ impl<F: Fn(i64) -> i64> World<F> {
         ensures events { self.new.plant.events ≡ self.old.plant.events }
         ensures laws { laws_of self.new ≡ laws_of self.old }
     {
-        let news = step_node(&mut self.nodes[usize::from(out.node)], put, out);
+        let node = &mut self.nodes[usize::from(out.node)];
+        let before = node.states();
+        step_node(node, out);
+        let after = node.states();
+        let news = news_of(out, put, &before, &after);
         told(&mut self.plant, &news, out.outs.as_slice());
     }
 }
 
-// A node takes an input. Returns what is to be reported to the rest of the world.
-fn step_node<F: Fn(i64) -> i64>(node: &mut Node<F>, put: Tau, out: &mut NodeOut) -> News
+// A node takes an input.
+fn step_node<F: Fn(i64) -> i64>(node: &mut Node<F>, out: &mut NodeOut)
     requires valid { NodeIsValid F.pre F.post node.old }
     requires input { FitsInput node.old out.old.input }
     ensures valid { NodeIsValid F.pre F.post node.new }
@@ -70,19 +74,26 @@ fn step_node<F: Fn(i64) -> i64>(node: &mut Node<F>, put: Tau, out: &mut NodeOut)
     ensures node { out.new.node ≡ out.old.node }
     ensures input { out.new.input ≡ out.old.input }
     ensures took { Took F.post node.old node.new out.old.input out.new.outs.items }
-    ensures news { IsNewsOf F.post put node.old node.new out.old result }
 {
-    let ticked = is_tick(&out.input);
-    let by = mover_of(&out.input, put);
-    let before = node.states();
     node.step_into(&out.input, &mut out.outs);
-    let after = node.states();
+}
+
+// What the rest of the world is to be told of a node's step: what the node was given, and the link
+// states of its ports before and after.
+fn news_of<'a>(out: &NodeOut, put: Tau, before: &'a PortStates, after: &'a PortStates) -> News<'a>
+    ensures node { result.node ≡ out.now.node }
+    ensures ticked { result.ticked ≡ is_tick out.now.input }
+    ensures by { (g : Given) → IsRead put g.says g.at out.now.input
+        → result.by ≡ mover_of g out.now.input }
+    ensures before { result.before.now ≡ before.now }
+    ensures after { result.after.now ≡ after.now }
+{
     News {
         node: out.node,
-        ticked,
+        ticked: is_tick(&out.input),
         before,
         after,
-        by,
+        by: mover_of(&out.input, put),
     }
 }
 
@@ -129,7 +140,10 @@ fn is_signaling(octets: &[u8]) -> bool
     }
 }
 
-// The White Rabbit message that octets spell, if they spell one.
+// The White Rabbit message that octets spell, if they spell one. A decoded message takes much room, so it is read in a
+// call of its own.
+#[cold]
+#[inline(never)]
 fn read_frame(octets: &[u8], put: Tau) -> Option<(WrMsg, Tau)>
     ensures { (says : Result PtpMsg FrameFault) → Says octets.now says
         → result ≡ in_frame says put }

@@ -119,15 +119,31 @@ impl<F: Fn(i64) -> i64> World<F> {
         if is_top { Some(0) } else { None }
     }
 
-    // Checks that a clock keeps within its rate.
+    // Checks that a clock that drifts so far keeps within its rate.
+    fn drift_broken(&self, n: u8, dt: i64, drift: i64) -> Option<Breach>
+        requires valid { IsValid F.pre F.post self.now }
+        requires node { n < length self.now.nodes }
+        ensures { (s : Setting) (w : WorldAt) → StandsFor F.post s w self.now
+            → result ≡ told_of (premise.rate_checks drift dt (premise.rate_of s w n)) }
+    {
+        let rate = self.rate(n);
+        rate_kept(drift, dt, rate)
+    }
+
+    // Checks that a clock keeps within its rate. A clock that does not drift keeps within every rate, so its rate is not
+    // looked up.
     fn rate_broken(&self, n: u8, dt: i64, drifts: &ArrayVec<i64, 64>) -> Option<Breach>
         requires valid { IsValid F.pre F.post self.now }
         requires node { n < length self.now.nodes }
         ensures { (s : Setting) (w : WorldAt) → StandsFor F.post s w self.now
             → result ≡ told_of (premise.rate_kept s w dt drifts.now.items n) }
     {
-        let rate = self.rate(n);
-        rate_kept(drift_at(drifts.as_slice(), n), dt, rate)
+        let drift = drift_at(drifts.as_slice(), n);
+        if drift == 0 {
+            None
+        } else {
+            self.drift_broken(n, dt, drift)
+        }
     }
 
     // Checks that all clocks keep within their rates.

@@ -1,9 +1,8 @@
-use Rattle.std.proofs.Common.{refl, subst, sym, ℤ, List}
+use Rattle.std.proofs.Common.{subst, ℤ}
 use Rattle.wrp_course.specs.declared.event.Event.TheVariants.{Depart}
-use Rattle.wrp_course.specs.declared.node_out.NodeOut.{NodeOut}
 use Rattle.wrp_changes.specs.Giving.{Gives}
 use Rattle.wrp_changes.proofs.Departing.{on_ok}
-use Rattle.wrp_changes.proofs.Listing.{given_as, none_given}
+use Rattle.wrp_changes.proofs.Listing.{given_as}
 use Rattle.wrp_changes.proofs.FrameGifts.{stamp_small}
 use Rattle.wrp_plant.proofs.SignedReads.{read}
 use Rattle.wrp_changes.proofs.giving.give_by.Goals as goal

@@ -3,7 +3,7 @@ use Rattle.std.proofs.Common.{◌≡◌, ◌-◌, map}
 use Rattle.wrp_course.specs.Checks.{told_of}
 use Rattle.wrp_course.specs.Premises.{bit_check}
 use Rattle.wrp_course.specs.Setting.{from_on}
-use Rattle.wrp_premises.proofs.premises.beat.bits_kept.Given as goal
+use Rattle.wrp_premises.proofs.premises.beat.first_wrong.Given as goal
 
 abbrev pub invariant-loop-i : goal.invariant-loop-i
 invariant-loop-i l =
