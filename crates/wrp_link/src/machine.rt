@@ -3,7 +3,7 @@ mod rows;
 mod states;
 mod ticks;
 
-ghost use Rattle.std.specs.Prelude.{◌≡◌, ◌≤◌, ◌↔◌, ℕ, List, [], Some, option_map};
+ghost use Rattle.std.specs.Prelude.{◌≡◌, ◌≤◌, ◌↔◌, ℕ, List, [], Some, option_map, true, false};
 ghost use Rattle.wrp_base.specs.Calls.{Adds};
 ghost use Rattle.wrp_link.specs.declared.interface.LinkIn.{LinkIn};
 ghost use Rattle.wrp_link.specs.LinkAt.{new_link};
@@ -104,6 +104,28 @@ impl Link {
                 moved,
                 used: false,
             },
+        }
+    }
+
+    /// Takes a tick in WR_LINK_ON: it is counted, and nothing is sent. This is `step` without an answer, for the
+    /// state in which a link is longest. In any other state the answer is false, and nothing changes.
+    pub fn count_tick(&mut self, locked: bool) -> bool
+        ensures counted { result ≡ true → self.new ≡ after self.old (LinkIn.Tick locked) }
+        ensures silent { result ≡ true → sends_of self.old (LinkIn.Tick locked) ≡ [] }
+        ensures on { result ≡ true → word_of self.old ≡ LinkWord.In LinkState.LinkOn }
+        ensures still { result ≡ true → word_of self.new ≡ LinkWord.In LinkState.LinkOn }
+        ensures kept { result ≡ false → self.new ≡ self.old }
+
+        // The link stands for the list of its inputs.
+        ensures stands { result ≡ true → Adds StandsFor self.old self.new (LinkIn.Tick locked) }
+    {
+        let _any = locked;
+        match self.state {
+            LinkState::LinkOn if self.carrier => {
+                self.on_ticks = self.on_ticks.saturating_add(1);
+                true
+            }
+            _ => false,
         }
     }
 
