@@ -82,7 +82,8 @@ returns-in-Some-clause-stands g c = λ start left held reached.
     let there = moved (λ l. Reached (Handles (g.M.Machine.accepts (g.M.Machine.setting c.args.machine.now))) (g.M.Machine.has_taken c.args.machine.now) start (record { rest = l ++ r.rest; ended = r.ended }) left (g.S.Source.left c.next_record.new.source) held (g.K.Sink.held c.next_record.new.sink) c.next_record.new.waiting.items c.args.number.now)
     _ _ (sym c.deref-2.ensures.value) (arrives _ _ start line r _ _ _ _ _ _ so_far) in
     let how = moved (λ octets. Finishes (status_by c.in-Some.ended) c.finish-in-Some.result (g.K.Sink.held c.next_record.new.sink) (g.K.Sink.held c.finish-in-Some.new.sink) octets) _ _ c.deref-in-Some.ensures.value c.finish-in-Some.ensures.text in
-    closes_by _ _ _ _ _ _ _ _ _ _ _ _ _ (c.in-Some.ensures.stands start left _ held _ there) how
+    closes_by _ _ (g.M.Machine.has_taken c.handle_given.new.machine) _ _ _ _ _ _ _ _ _ _
+    (c.in-Some.ensures.stands start left (g.S.Source.left c.next_record.new.source) held (g.K.Sink.held c.next_record.new.sink) there) how
 
 pub returns-in-None-clause-stands : goal.returns-in-None-clause-stands
 returns-in-None-clause-stands g c = λ start left held reached.
@@ -91,7 +92,7 @@ returns-in-None-clause-stands g c = λ start left held reached.
     let so_far = writes_on _ _ _ line r _ _ _ _ _ _ _ _ (comes _ _ _ line _ r _ _ _ _ _ _ _ reached c.next_record.ensures.taken) c.in-Line.ensures.written in
     let there = moved (λ l. Reached (Handles (g.M.Machine.accepts (g.M.Machine.setting c.args.machine.now))) (g.M.Machine.has_taken c.args.machine.now) start (record { rest = l ++ r.rest; ended = r.ended }) left (g.S.Source.left c.next_record.new.source) held (g.K.Sink.held c.next_record.new.sink) c.next_record.new.waiting.items c.args.number.now)
     _ _ (sym c.deref-2.ensures.value) (arrives _ _ start line r _ _ _ _ _ _ so_far) in
-    c.in-None.ensures.stands start left _ held _ there
+    c.in-None.ensures.stands start left (g.S.Source.left c.next_record.new.source) held (g.K.Sink.held c.next_record.new.sink) there
 
 pub returns-in-End-clause-faults : goal.returns-in-End-clause-faults
 returns-in-End-clause-faults g c = told_end _ _ _ _ _ c.in-End.ensures.read_kept c.in-End.ensures.write_kept

@@ -35,7 +35,7 @@ returns-clause-stands g c = λ start left rest held now so_far.
     c.pass.new.self (drop c.handle_front-handled.result.size c.held.result.now) r.ended (c.pass.ensures.rest ∙ ap (drop c.handle_front-handled.result.size) (sym c.held.ensures.value)) c.pass.ensures.ended
     (c.handle_front-handled.ensures.stands r.ended start left rest held now next before)
 
-pub returns-handle_line-clause-stands : goal.returns-handle_line-clause-stands
-returns-handle_line-clause-stands g c = λ start left rest held now so_far.
+pub returns-then-not-is_plain-clause-stands : goal.returns-then-not-is_plain-clause-stands
+returns-then-not-is_plain-clause-stands g c = λ start left rest held now so_far.
     goes_next _ (g.M.Machine.refuses (g.M.Machine.setting c.args.machine.now)) _ (g.M.Machine.has_taken c.handle_line.new.machine) start c.args.line.now c.content-said.result.now c.args.reader.now left rest held now c.args.waiting.now.items c.handle_line.new.waiting.items c.args.number.now
     c.handle_line.result so_far (c.requires.next, c.requires.piece, c.requires.within, c.requires.number) c.content-said.ensures c.handle_line.ensures.stands
