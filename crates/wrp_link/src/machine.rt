@@ -107,26 +107,18 @@ impl Link {
         }
     }
 
-    /// Takes a tick in WR_LINK_ON: it is counted, and nothing is sent. This is `step` without an answer, for the
-    /// state in which a link is longest. In any other state the answer is false, and nothing changes.
+    /// Takes a tick if the link only counts it, and then answers true: without a carrier, in IDLE and in WR_LINK_ON.
+    /// Nothing is sent, and the state stays. This is `step` without an answer, for what most ticks are. In any
+    /// other state nothing changes, and the answer is false.
     pub fn count_tick(&mut self, locked: bool) -> bool
         ensures counted { result ≡ true → self.new ≡ after self.old (LinkIn.Tick locked) }
         ensures silent { result ≡ true → sends_of self.old (LinkIn.Tick locked) ≡ [] }
-        ensures on { result ≡ true → word_of self.old ≡ LinkWord.In LinkState.LinkOn }
-        ensures still { result ≡ true → word_of self.new ≡ LinkWord.In LinkState.LinkOn }
         ensures kept { result ≡ false → self.new ≡ self.old }
 
         // The link stands for the list of its inputs.
         ensures stands { result ≡ true → Adds StandsFor self.old self.new (LinkIn.Tick locked) }
     {
-        let _any = locked;
-        match self.state {
-            LinkState::LinkOn if self.carrier => {
-                self.on_ticks = self.on_ticks.saturating_add(1);
-                true
-            }
-            _ => false,
-        }
+        self.counts(locked)
     }
 
     /// The state of link setup.
@@ -163,6 +155,28 @@ impl Link {
             (result ≡ Some (tx, rx)) ↔ Told (new_link self.now.role self.now.set) inputs tx rx }
     {
         self.deltas
+    }
+
+    // Takes a tick that is only counted, if it is one.
+    fn counts(&mut self, locked: bool) -> bool
+        ensures counted { result ≡ true → self.new ≡ after self.old (LinkIn.Tick locked) }
+        ensures silent { result ≡ true → sends_of self.old (LinkIn.Tick locked) ≡ [] }
+        ensures kept { result ≡ false → self.new ≡ self.old }
+    {
+        let _any = locked;
+        match self.state {
+            _ if !self.carrier => true,
+            LinkState::Idle => {
+                self.quiet = self.quiet.saturating_sub(1);
+                self.holdoff = self.holdoff.saturating_sub(1);
+                true
+            }
+            LinkState::LinkOn => {
+                self.on_ticks = self.on_ticks.saturating_add(1);
+                true
+            }
+            _ => false,
+        }
     }
 
     // The messages that an input sends; None for a message without a row.

@@ -146,18 +146,27 @@ impl Rest {
         self.tell(LinkIn::Tick(locked))
     }
 
-    /// The same in WR_LINK_ON, where the link sends nothing: only counts change. In any other state the answer is
-    /// false, and nothing changes.
+    /// The same if the link only counts the tick and sends nothing, and then the answer is true. Otherwise nothing
+    /// changes.
     pub fn tick_on(&mut self, set: &Setting, locked: bool) -> bool
         requires { IsSetting set.now }
         ensures line { result ≡ true → self.new ≡ ticked set.now self.old locked }
         ensures sends { result ≡ true → link_sends_of self.old.link (LinkIn.Tick locked) ≡ [] }
         ensures kept { result ≡ false → self.new ≡ self.old }
     {
+        let turns = if is_open(&self.link) {
+            self.turns.next(&set.sched)
+        } else {
+            Turns::new()
+        };
         if !self.link.count_tick(locked) {
             return false;
         }
-        self.turns = self.turns.next(&set.sched);
+        self.turns = if is_open(&self.link) {
+            turns
+        } else {
+            Turns::new()
+        };
         self.ids.signal = self.ids.signal.wrapping_add(0);
         true
     }

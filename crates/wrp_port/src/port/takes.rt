@@ -117,9 +117,21 @@ impl Port {
             (link_sends_of self.old.line.link (link.Tick locked)) }
         ensures room { length sends.new.items ≤ 2 }
     {
-        if self.line.tick_on(&self.set, locked) {
-            return;
+        if !self.line.tick_on(&self.set, locked) {
+            self.tick_handshake(locked, sends);
         }
+    }
+
+    // The same in a handshake. What the link answers is large: it has a frame of its own, so that no other tick
+    // needs room for it.
+    #[inline(never)]
+    fn tick_handshake(&mut self, locked: bool, sends: &mut Sends)
+        requires { sends.old.items ≡ [] }
+        ensures line { self.new ≡ record self.old { line = ticked self.old.set self.old.line locked } }
+        ensures sends { sends.new.items ≡ signals_of self.old.set self.old.line.ids.signal
+            (link_sends_of self.old.line.link (link.Tick locked)) }
+        ensures room { length sends.new.items ≤ 2 }
+    {
         let first = self.line.ids.signal;
         let out = self.line.tick(&self.set, locked);
         send_signals(&self.set, first, &out.sends, sends);
