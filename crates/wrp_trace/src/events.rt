@@ -23,13 +23,13 @@ pub use place::{EventPlace, read_event_into};
 pub use printing::event_line;
 use std::alloc::Global;
 use swaps::swaps_at;
+use writing::{write_sample, write_tick};
 use wrp_base::TraceFault;
 use wrp_config::Network;
 use wrp_course::Event;
 use wrp_fields::{is_plain, split};
 use wrp_names::{link_at, node_at};
 use wrp_network::NetCfg;
-use writing::{write_sample, write_tick};
 
 // What the fields of a line say.
 fn read_row(row: &ByteRecord, net: &Network) -> Result<Event, TraceFault>

@@ -1,5 +1,5 @@
 -- The line is handled, and then those that follow it; or one of them ends the handling.
-use Rattle.std.proofs.Common.{◌≡◌, ◌+◌, ◌<◌, None, Some, drop, refl, sym, arith}
+use Rattle.std.proofs.Common.{◌+◌, ◌<◌, None, Some, drop, refl, sym, arith}
 use Rattle.wrp_records.specs.declared.engine.Ended.TheVariants.{Memory}
 use Rattle.wrp_records.specs.Reached.{Comes, Reached}
 use Rattle.wrp_records.specs.Reader.{ReaderAt}
@@ -40,6 +40,6 @@ returns-clause-stands g c = λ ended start left rest held now next so_far.
     so_far (next, c.requires.piece, c.requires.within, c.requires.number) c.content-said.ensures c.in-None.ensures.stands in
     moved
     (λ x. Reached (Handles (g.M.Machine.accepts x)) (g.M.Machine.has_taken c.handle_line.new.machine) start s left rest held now c.handle_line.new.waiting.items (c.args.number.now + 1)
-        → Comes (g.M.Machine.accepts x) (g.M.Machine.refuses x) (g.M.Machine.has_taken c.handle_block.new.machine) start (record { rest = drop c.handle_block.result.size c.args.octets.now; ended = ended }) left rest held now
-        c.handle_block.new.waiting.items c.handle_block.new.number c.handle_block.result.ended)
+    → Comes (g.M.Machine.accepts x) (g.M.Machine.refuses x) (g.M.Machine.has_taken c.handle_block.new.machine) start (record { rest = drop c.handle_block.result.size c.args.octets.now; ended = ended }) left rest held now
+    c.handle_block.new.waiting.items c.handle_block.new.number c.handle_block.result.ended)
     _ _ c.handle_line.ensures.setting (c.handle_block.ensures.stands ended start left rest held now) mid
