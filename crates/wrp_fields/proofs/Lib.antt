@@ -4,3 +4,4 @@ pub mod FieldLemmas
 pub mod HeldNumbers
 pub mod PlainLemmas
 pub mod Values
+pub mod TwoParts

@@ -1,11 +1,18 @@
 -- What a reader of a block of lines has left.
 use Rattle.std.specs.Prelude.{ℕ, Bool, List, [], ◌∷◌, ◌≡◌, ◌<◌, Option, Some, None, option_and_then, if◌then◌else◌, ◌==◌, true, false}
+use Rattle.std.specs.Borrow.{Bor}
+use Rattle.std.specs.Io.Chain.{chain_remaining}
+use Rattle.std.specs.declared.io.traits.Chain.{Chain}
 use Rattle.csv.specs.declared.parser.State.{State}
 use Rattle.csv.specs.declared.parser.State.TheVariants.{StartRecord, AfterCr}
 use Rattle.csv.specs.declared.reader.Reader.{Reader}
 use Rattle.csv.specs.declared.reader.Trim.TheVariants as trim
 use Rattle.wrp_base.specs.Lines.{parts_of}
 use Rattle.csv.specs.Reading.{Ready, default_config, has_failed, is_flexible, reader_config, reader_trim}
+
+-- the octets that two slices, one after the other, have left
+abbrev pub left_in : Chain (Bor (List ℕ)) (Bor (List ℕ)) → Option (List ℕ)
+left_in chain = chain_remaining (λ (s : Bor (List ℕ)). Some s.now) (λ (s : Bor (List ℕ)). Some s.now) chain
 
 -- the first octet, if any, is below 128
 abbrev pub StartsPlain : List ℕ → Type 0

@@ -2,11 +2,12 @@
 ghost use Rattle.std.specs.Prelude.{◌≡◌, ◌∷◌, ◌++◌, [], ℕ, List, Option, IfOk, Some, false};
 ghost use Rattle.csv.specs.Reading.{source_of};
 ghost use Rattle.csv.specs.Records.{fields_of};
-ghost use Rattle.wrp_fields.specs.Block.{at_start, IsFound, IsPlainReader, StartsPlain};
+ghost use Rattle.wrp_fields.specs.Block.{at_start, left_in, IsFound, IsPlainReader, StartsPlain};
 ghost use Rattle.wrp_fields.specs.Lines.{IsLine};
 
 use csv::{ByteRecord, Reader, ReaderBuilder};
 use std::alloc::{AllocError, Global};
+use std::io::{Chain, Read};
 use std::marker::Model;
 
 /// The lines of a block of octets, read one after another. A clause sees the octets that are left;
@@ -16,13 +17,13 @@ use std::marker::Model;
 /// line with `is_plain` before reading it, and stops at the first that is not plain.
 #[derive(Drop)]
 pub struct Block<'a> {
-    reader: Reader<&'a [u8]>,
+    reader: Reader<Chain<&'a [u8], &'a [u8]>>,
 }
 
 impl<'a> Model for Block<'a> {
     ghost Value = { Option (List ℕ) };
 
-    ghost view = { λ b. at_start b.reader.state (source_of (λ s. Some s.now) b.reader) };
+    ghost view = { λ b. at_start b.reader.state (source_of left_in b.reader) };
 
     ghost invariant = { λ b. IsPlainReader b.reader };
 }
@@ -30,15 +31,24 @@ impl<'a> Model for Block<'a> {
 impl<'a> Block<'a> {
     /// A reader of the lines of these octets. If there are octets, the first must be below 128,
     /// because a byte order mark would be dropped.
-    #[tactic(auto, using(crate::proofs::Splitting::strip_plain))]
     pub fn new(alloc: Global, octets: &'a [u8]) -> Block<'a>
         ensures { StartsPlain octets.now → result ≡ Some octets.now }
+    {
+        Block::joined(alloc, octets, &[])
+    }
+
+    /// A reader of the lines of these octets and of those that follow. A reader of `csv` is expensive to make, so
+    /// one serves both. The first octet, if there is one, must be below 128.
+    #[tactic(auto, using(crate::proofs::Splitting::strip_plain))]
+    pub fn joined(alloc: Global, octets: &'a [u8], following: &'a [u8]) -> Block<'a>
+        ensures { StartsPlain (octets.now ++ following.now)
+            → result ≡ Some (octets.now ++ following.now) }
     {
         Block {
             reader: ReaderBuilder::new()
                 .has_headers(false)
                 .flexible(true)
-                .from_reader(alloc, octets),
+                .from_reader(alloc, octets.chain(following)),
         }
     }
 

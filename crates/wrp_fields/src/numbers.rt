@@ -10,6 +10,9 @@ const MOST_DIGITS: usize = 39;
 // A number with this many digits fits 64 bits.
 const FEW_DIGITS: usize = 19;
 
+// 10^19, by which the digits before the last 19 count.
+const FEW_SCALE: u128 = 10_000_000_000_000_000_000;
+
 // The greatest i128.
 const MOST_SIZE: u128 = (1 << 127) - 1;
 
@@ -117,6 +120,19 @@ fn kept(number: i128, least: i128, greatest: i128) -> Option<i128>
     }
 }
 
+// The number of 20 to 38 digits. It is read in two parts of 64 bits: the last 19 digits, and those before them.
+// None if an octet is no digit.
+fn many_digits(digits: &[u8]) -> Option<u128>
+    requires least { 19 < length digits.now }
+    requires most { length digits.now ≤ 38 }
+    ensures { result ≡ digits_of digits.now }
+{
+    let (high, low) = digits.split_at(digits.len() - FEW_DIGITS);
+    let high = few_digits(high)?;
+    let low = few_digits(low)?;
+    Some(u128::from(high) * FEW_SCALE + u128::from(low))
+}
+
 // The number of 1 to 39 digits, limited to the greatest i128.
 fn size(digits: &[u8]) -> Option<i128>
     ensures value { result ≡ option_map (λ n. pos (min n (2 ^ 127 - 1))) (digits_of digits.now) }
@@ -124,6 +140,8 @@ fn size(digits: &[u8]) -> Option<i128>
 {
     if digits.len() <= FEW_DIGITS {
         Some(i128::from(few_digits(digits)?))
+    } else if digits.len() <= 2 * FEW_DIGITS {
+        Some(many_digits(digits)?.min(MOST_SIZE) as i128)
     } else if are_digits(digits) {
         Some(value(digits).min(MOST_SIZE) as i128)
     } else {

@@ -3,7 +3,7 @@ mod rows;
 mod states;
 mod ticks;
 
-ghost use Rattle.std.specs.Prelude.{◌≡◌, ◌≤◌, ◌↔◌, ℕ, List, [], Some, option_map};
+ghost use Rattle.std.specs.Prelude.{◌≡◌, ◌≤◌, ◌↔◌, ℕ, List, [], Some, option_map, true, false};
 ghost use Rattle.wrp_base.specs.Calls.{Adds};
 ghost use Rattle.wrp_link.specs.declared.interface.LinkIn.{LinkIn};
 ghost use Rattle.wrp_link.specs.LinkAt.{new_link};
@@ -107,6 +107,20 @@ impl Link {
         }
     }
 
+    /// Takes a tick if the link only counts it, and then answers true: without a carrier, in IDLE and in WR_LINK_ON.
+    /// Nothing is sent, and the state stays. This is `step` without an answer, for what most ticks are. In any
+    /// other state nothing changes, and the answer is false.
+    pub fn count_tick(&mut self, locked: bool) -> bool
+        ensures counted { result ≡ true → self.new ≡ after self.old (LinkIn.Tick locked) }
+        ensures silent { result ≡ true → sends_of self.old (LinkIn.Tick locked) ≡ [] }
+        ensures kept { result ≡ false → self.new ≡ self.old }
+
+        // The link stands for the list of its inputs.
+        ensures stands { result ≡ true → Adds StandsFor self.old self.new (LinkIn.Tick locked) }
+    {
+        self.counts(locked)
+    }
+
     /// The state of link setup.
     pub fn state(&self) -> LinkState
         ensures { result ≡ self.now.state }
@@ -141,6 +155,28 @@ impl Link {
             (result ≡ Some (tx, rx)) ↔ Told (new_link self.now.role self.now.set) inputs tx rx }
     {
         self.deltas
+    }
+
+    // Takes a tick that is only counted, if it is one.
+    fn counts(&mut self, locked: bool) -> bool
+        ensures counted { result ≡ true → self.new ≡ after self.old (LinkIn.Tick locked) }
+        ensures silent { result ≡ true → sends_of self.old (LinkIn.Tick locked) ≡ [] }
+        ensures kept { result ≡ false → self.new ≡ self.old }
+    {
+        let _any = locked;
+        match self.state {
+            _ if !self.carrier => true,
+            LinkState::Idle => {
+                self.quiet = self.quiet.saturating_sub(1);
+                self.holdoff = self.holdoff.saturating_sub(1);
+                true
+            }
+            LinkState::LinkOn => {
+                self.on_ticks = self.on_ticks.saturating_add(1);
+                true
+            }
+            _ => false,
+        }
     }
 
     // The messages that an input sends; None for a message without a row.

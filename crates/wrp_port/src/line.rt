@@ -1,5 +1,5 @@
 //! A port's line, which is all of the port but its exchange.
-ghost use Rattle.std.specs.Prelude.{◌≡◌, ◌≤◌, ◌<◌, ◌+◌, ◌%◌, ◌++◌, length};
+ghost use Rattle.std.specs.Prelude.{◌≡◌, ◌≤◌, ◌<◌, ◌+◌, ◌%◌, ◌++◌, [], true, false, length};
 ghost use Rattle.wrp_link.specs.Table.{sends_of as link_sends_of, is_used};
 ghost use Rattle.wrp_port.specs.LineAfter.{first_turns, next_turns, first_ids, new_line, told, ticked, scheduled, announced, synced, requested, announces_on, syncs_on, requests_on, is_due};
 ghost use Rattle.wrp_port.specs.Messages.{announce_of, sync_of, request_of};
@@ -144,6 +144,31 @@ impl Rest {
         };
         self.turns = turns;
         self.tell(LinkIn::Tick(locked))
+    }
+
+    /// The same if the link only counts the tick and sends nothing, and then the answer is true. Otherwise nothing
+    /// changes.
+    pub fn tick_on(&mut self, set: &Setting, locked: bool) -> bool
+        requires { IsSetting set.now }
+        ensures line { result ≡ true → self.new ≡ ticked set.now self.old locked }
+        ensures sends { result ≡ true → link_sends_of self.old.link (LinkIn.Tick locked) ≡ [] }
+        ensures kept { result ≡ false → self.new ≡ self.old }
+    {
+        let turns = if is_open(&self.link) {
+            self.turns.next(&set.sched)
+        } else {
+            Turns::new()
+        };
+        if !self.link.count_tick(locked) {
+            return false;
+        }
+        self.turns = if is_open(&self.link) {
+            turns
+        } else {
+            Turns::new()
+        };
+        self.ids.signal = self.ids.signal.wrapping_add(0);
+        true
     }
 
     // Whether a message of this turn is due.

@@ -1,10 +1,10 @@
 -- How a whole line ends, and how lines are split.
-use Rattle.std.proofs.Common.{◌≡◌, ◌⊎◌, inl, inr, ◌==◌, ℕ, ◌+◌, ◌-◌, ◌<◌, ◌≤◌, min, List, [], ◌∷◌, ◌++◌, reverse, length, take, drop, refl, sym, ap, ◌∙◌, subst, false, append_assoc, length-append, length-take, arith}
+use Rattle.std.proofs.Common.{◌≡◌, ◌⊎◌, inl, inr, ◌==◌, ℕ, ◌+◌, ◌-◌, ◌<◌, ◌≤◌, min, List, [], ◌∷◌, ◌++◌, reverse, length, take, drop, refl, sym, ap, ◌∙◌, subst, false, append_assoc, length-append, length-take, append-nil, arith}
 use Rattle.std.proofs.lemmas.List.{reverse-append, reverse-reverse, take-append-drop, drop-drop, length-drop}
 use Rattle.std.proofs.lemmas.Bool.{cases_Bool, eqb-true}
 use Rattle.wrp_fields.specs.Block.{StartsPlain}
 use Rattle.wrp_fields.specs.Lines.{IsLine}
-use Rattle.wrp_records.specs.Lines.{content_of, without_return, HasNoFeed, IsWhole}
+use Rattle.wrp_records.specs.Lines.{content_of, without_end, without_return, HasNoFeed, IsWhole}
 use Rattle.wrp_records.specs.Stream.{IsWithin}
 use Rattle.wrp_records.proofs.Feeds.{feed_at}
 
@@ -34,7 +34,7 @@ line_ends line whole =
     subst (λ (l : List ℕ). Ends l (content_of line)) (sym whole.is) (subst (λ (s : List ℕ). Ends (whole.front ++ 10 ∷ []) s) (sym said) ends)
 
 -- a plain line begins with an octet below 128
-pub starts_plain : (line : List ℕ) → IsLine line → StartsPlain line
+starts_plain : (line : List ℕ) → IsLine line → StartsPlain line
 starts_plain [] is = tt
 starts_plain (c ∷ cs) is = is.1.0.3
 
@@ -43,18 +43,49 @@ starts_said : (said rest : List ℕ) → IsLine said → StartsPlain (said ++ re
 starts_said [] rest is = absurd (is.0 refl)
 starts_said (c ∷ cs) rest is = is.1.0.3
 
--- so do octets that begin with such a line
-pub starts_by : (octets line : List ℕ) → octets ≡ line ++ drop (length line) octets → IsWhole line → IsLine (content_of line) → StartsPlain octets
-starts_by octets line parts whole is =
-    let rest : List ℕ = drop (length line) octets in
-    elim (line_ends line whole) [
-      | inl feed ↦
-          let all : octets ≡ content_of line ++ (10 ∷ rest) = parts ∙ ap (λ (l : List ℕ). l ++ rest) feed ∙ append_assoc (content_of line) (10 ∷ []) rest in
-          subst StartsPlain (sym all) (starts_said (content_of line) (10 ∷ rest) is)
-      | inr both ↦
-          let all : octets ≡ content_of line ++ (13 ∷ 10 ∷ rest) = parts ∙ ap (λ (l : List ℕ). l ++ rest) both ∙ append_assoc (content_of line) (13 ∷ 10 ∷ []) rest in
-          subst StartsPlain (sym all) (starts_said (content_of line) (13 ∷ 10 ∷ rest) is)
-    ]
+-- the last of some octets is no LF if none of them is
+last_no_feed : (front : List ℕ) (octet : ℕ) → HasNoFeed (front ++ octet ∷ []) → (octet == 10) ≡ false
+last_no_feed [] octet plain = plain.0
+last_no_feed (x ∷ front) octet plain = last_no_feed front octet plain.1
+
+no_end : (back : List ℕ) → HasNoFeed (reverse back) → without_end back ≡ back
+no_end [] plain = refl
+no_end (c ∷ cs) plain =
+    let other : (c == 10) ≡ false = last_no_feed (reverse cs) c (subst HasNoFeed (reverse_more c cs) plain) in
+    rw other refl
+
+-- a line without an LF says all of its octets
+content_open : (line : List ℕ) → HasNoFeed line → content_of line ≡ line
+content_open line plain =
+    ap reverse (no_end (reverse line) (subst HasNoFeed (sym (reverse-reverse line)) plain)) ∙ reverse-reverse line
+
+-- a line is whole, or has no LF and nothing follows it
+abbrev pub IsFirst : List ℕ → List ℕ → Type 0
+IsFirst line octets = IsWhole line ⊎ (HasNoFeed line × (octets ≡ []))
+
+-- such a line with what follows: what it says, how it ends, and what is left
+abbrev pub Begins : List ℕ → List ℕ → Type 0
+Begins line octets =
+    (line ++ octets ≡ content_of line ++ (10 ∷ octets))
+    ⊎ ((line ++ octets ≡ content_of line ++ (13 ∷ 10 ∷ octets)) ⊎ ((line ++ octets ≡ content_of line) × (octets ≡ [])))
+
+pub begins_by : (line octets : List ℕ) → IsFirst line octets → Begins line octets
+begins_by line octets (inl whole) = elim (line_ends line whole) [
+  | inl feed ↦ inl (ap (λ (l : List ℕ). l ++ octets) feed ∙ append_assoc (content_of line) (10 ∷ []) octets)
+  | inr both ↦ inr (inl (ap (λ (l : List ℕ). l ++ octets) both ∙ append_assoc (content_of line) (13 ∷ 10 ∷ []) octets))
+]
+begins_by line octets (inr open_line) =
+    inr (inr (ap (λ (l : List ℕ). line ++ l) open_line.1 ∙ append-nil line ∙ sym (content_open line open_line.0), open_line.1))
+
+-- octets that begin with a plain line begin with an octet below 128
+pub starts_first : (line octets : List ℕ) → IsFirst line octets → IsLine (content_of line) → StartsPlain (line ++ octets)
+starts_first line octets first is = elim (begins_by line octets first) [
+  | inl feed ↦ subst StartsPlain (sym feed) (starts_said (content_of line) (10 ∷ octets) is)
+  | inr rest ↦ elim rest [
+    | inl both ↦ subst StartsPlain (sym both) (starts_said (content_of line) (13 ∷ 10 ∷ octets) is)
+    | inr last ↦ subst StartsPlain (sym last.0) (starts_plain (content_of line) is)
+  ]
+]
 
 -- how many octets come before the LF of a whole line
 feed_behind : (front : List ℕ) → HasNoFeed front → feed_at (front ++ 10 ∷ []) ≡ length front

@@ -8,7 +8,7 @@ use Rattle.wrp_records.specs.declared.status.Status.TheVariants.{OutOfMemory}
 use Rattle.wrp_records.specs.Engine.{LineOutcome}
 use Rattle.wrp_records.specs.Lines.{content_of, IsWhole}
 use Rattle.wrp_records.specs.Reached.{Reached, Stopped, Comes}
-use Rattle.wrp_records.specs.Reader.{ReaderAt, piece_limit}
+use Rattle.wrp_records.specs.Reader.{ReaderAt, IsNext, piece_limit}
 use Rattle.wrp_records.specs.Stream.{Accepting, Refusing, Handles, Handling, IsWithin, number_limit}
 use Rattle.wrp_records.proofs.Reaching.{Coming, comes, goes_on, stopped}
 
@@ -45,6 +45,38 @@ goes_by A R T U start line said r s left rest held now was waiting number (Some 
     stopped A R T U start line said s left rest held now was waiting number e here (inl fits.whole, fits.piece, fits.within, fits.below) is
     (gives (map content_of here.lines) here.text here.has here.handled.accepted (counts here.lines number here.count))
 
+-- the line and what the reader holds after it are what the reader has yet to give
+unfoldable pub arrives : (H : Accepting) (T : List (List ℕ) → Type 0) (start line : List ℕ) (r : ReaderAt) (left rest held now : Option (List ℕ)) (waiting : List ℕ) (number : ℕ)
+    → Coming H T start line r left rest held now waiting number → Reached H T start (record { rest = line ++ r.rest; ended = r.ended }) left rest held now waiting number
+arrives H T start line r left rest held now waiting number so_far = record {
+  given = so_far.given;
+  lines = so_far.lines;
+  text = so_far.text;
+  out = so_far.out;
+  taken = so_far.taken;
+  written = so_far.written;
+  waits = so_far.waits;
+  all = so_far.all;
+  first = so_far.first;
+  handled = so_far.handled;
+  has = so_far.has;
+  count = so_far.count;
+}
+
+-- a line that was given, which may be the last one, is handled, or ends the handling
+pub goes_next : (A : Accepting) (R : Refusing) (T U : List (List ℕ) → Type 0) (start line said : List ℕ) (s : ReaderAt) (left rest held now : Option (List ℕ)) (was waiting : List ℕ) (number : ℕ) (e : Option Ended)
+    → Reached (Handles A) T start (record { rest = line ++ s.rest; ended = s.ended }) left rest held now was number
+    → IsNext line s × (length s.rest ≤ piece_limit) × IsWithin line × (number + 1 < number_limit) → said ≡ content_of line
+    → Gives A R T U said number was waiting e → Comes A R U start s left rest held now waiting (number + 1) e
+goes_next A R T U start line said s left rest held now was waiting number None so_far next is gives =
+    let here = passes (Handles A) T start line (record { rest = line ++ s.rest; ended = s.ended }) s left rest held now was number so_far refl refl in
+    goes_on A R T U start line said s left rest held now was waiting number here next is
+    (gives (map content_of here.lines) here.text here.has here.handled.accepted (counts here.lines number here.count))
+goes_next A R T U start line said s left rest held now was waiting number (Some e) so_far next is gives =
+    let here = passes (Handles A) T start line (record { rest = line ++ s.rest; ended = s.ended }) s left rest held now was number so_far refl refl in
+    stopped A R T U start line said s left rest held now was waiting number e here next is
+    (gives (map content_of here.lines) here.text here.has here.handled.accepted (counts here.lines number here.count))
+
 -- without memory nothing more is expected
 pub short : (A : Accepting) (R : Refusing) (T : List (List ℕ) → Type 0) (start : List ℕ) (r : ReaderAt) (left rest held now : Option (List ℕ)) (waiting : List ℕ) (number : ℕ)
     → Reached (Handles A) T start r left rest held now waiting number → Stopped A R start r left rest held now waiting OutOfMemory
@@ -57,11 +89,6 @@ short A R T start r left rest held now waiting number so_far = record {
   waits = so_far.waits;
   due = record { lines = so_far.lines; more = r.rest; all = so_far.all; first = so_far.first; handled = so_far.handled };
 }
-
--- what the handling of held lines leads to
-abbrev pub Leads : Accepting → Refusing → (List (List ℕ) → Type 0) → (List (List ℕ) → Type 0) → ReaderAt → ReaderAt → List ℕ → List ℕ → ℕ → ℕ → Option Ended → Type 0
-Leads A R T U r s was waiting number more e = (start : List ℕ) (left rest held now : Option (List ℕ))
-    → Reached (Handles A) T start r left rest held now was number → Comes A R U start s left rest held now waiting more e
 
 -- what the handling of the next record leads to
 abbrev pub Ends : Accepting → Refusing → (List (List ℕ) → Type 0) → (List (List ℕ) → Type 0) → ReaderAt → ReaderAt → Option (List ℕ) → Option (List ℕ) → Option (List ℕ) → Option (List ℕ) → List ℕ → List ℕ → ℕ → ℕ → Option Status → Type 0

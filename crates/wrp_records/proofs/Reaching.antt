@@ -401,15 +401,6 @@ pub closes_by : (A : Accepting) (R : Refusing) (U : List (List ℕ) → Type 0) 
 closes_by A R U start r left rest held now then_ waiting status result at_end how =
     finishes A R U start r left rest held now then_ at_end.given at_end.out waiting at_end.text status result at_end.taken at_end.written at_end.waits at_end.due how
 
--- if a line's handling ends the run, and what is expected is written, or the sink fails
-pub stops : (A : Accepting) (R : Refusing) (T U : List (List ℕ) → Type 0) (start line said : List ℕ) (r : ReaderAt) (left rest held now then_ : Option (List ℕ)) (was waiting : List ℕ) (number : ℕ) (e : Ended) (result : Status)
-    → (so_far : Coming (Handles A) T start line r left rest held now was number) → IsNext line r × (length r.rest ≤ piece_limit) × IsWithin line × (number + 1 < number_limit)
-    → said ≡ content_of line → LineOutcome A R U (map content_of so_far.lines) said so_far.text was waiting (Some e)
-    → Finishes (status_by e) result now then_ waiting → Handling A R U start r left rest held then_ result
-stops A R T U start line said r left rest held now then_ was waiting number e result so_far next is outcome how =
-    closes_by A R U start r left rest held now then_ waiting (status_by e) result
-    (stopped A R T U start line said r left rest held now was waiting number e so_far next is outcome) how
-
 -- one more line is handled
 unfoldable pub goes_on_with : (H : Accepting) (T U : List (List ℕ) → Type 0) (start line : List ℕ) (r : ReaderAt) (left rest held now : Option (List ℕ)) (was waiting more : List ℕ) (number : ℕ)
     → (so_far : Coming H T start line r left rest held now was number) → IsNext line r

@@ -14,14 +14,12 @@ mod block;
 mod splitting;
 
 use crate::feed::first_feed;
-use crate::line::content;
 use crate::machine::{Machine, Refusal, Taken};
 use crate::reader::{Next, Reader};
 use crate::status::Status;
 use crate::writing::write_all;
-use block::handle_held;
+use block::handle_given;
 use csv::ByteRecord;
-use splitting::split;
 use std::alloc::{AllocError, Global};
 use wrp_io::{Sink, Source};
 
@@ -238,34 +236,6 @@ fn handle_line<M: Machine>(
     }
 }
 
-// Handles what a line that is alone says, as the record of this number.
-fn handle_alone<M: Machine>(
-    alloc: Global,
-    machine: &mut M,
-    said: &[u8],
-    number: u32,
-    text: &mut Vec<u8>,
-    waiting: &mut Vec<u8>,
-) -> Option<Ended>
-    requires ready { M.is_ready machine.old }
-    requires room { M.count machine.old + 1 < 2 ^ 32 }
-    ensures ready { M.is_ready machine.new }
-    ensures count { M.count machine.new ≤ M.count machine.old + 1 }
-    ensures setting { M.setting machine.new ≡ M.setting machine.old }
-    ensures stands { (lines : List (List ℕ)) (before : List ℕ)
-        → M.has_taken machine.old lines → M.accepts (M.setting machine.old) lines before
-        → number ≡ length lines + 1
-        → LineOutcome (M.accepts (M.setting machine.old)) (M.refuses (M.setting machine.old))
-        (M.has_taken machine.new) lines said.now before waiting.old.items waiting.new.items
-        result }
-{
-    match split(alloc, said) {
-        Ok(Some(row)) => handle_line(alloc, machine, said, Some(&row), number, text, waiting),
-        Ok(None) => handle_line(alloc, machine, said, None, number, text, waiting),
-        Err(_) => Some(Ended::Memory),
-    }
-}
-
 // Writes what waits, and answers the status with which the run ends.
 fn finish<K: Sink>(sink: &mut K, waiting: &[u8], ended: Ended) -> Status
     ensures text { Finishes (status_by ended) result (K.held sink.old) (K.held sink.new) waiting.now }
@@ -284,7 +254,7 @@ fn finish<K: Sink>(sink: &mut K, waiting: &[u8], ended: Ended) -> Status
     }
 }
 
-// Handles the next record, which the reader does not hold as a whole and plain line. Answers the status with
+// Handles the next record, and those that the reader then holds as whole and plain lines. Answers the status with
 // which the handling ends, if it ends here.
 fn handle_next<M: Machine, S: Source, K: Sink>(
     alloc: Global,
@@ -302,7 +272,7 @@ fn handle_next<M: Machine, S: Source, K: Sink>(
     requires at_end { reader.old.ended ≡ true → IsAtEnd (S.left source.old) }
     ensures machine { M.is_ready machine.new × (M.setting machine.new ≡ M.setting machine.old) }
     ensures count { result ≡ None
-        → (M.count machine.new ≤ number.new) × (number.new ≡ number.old + 1) }
+        → (M.count machine.new ≤ number.new) × (number.old < number.new) }
     ensures stands { (start : List ℕ) (left held : Option (List ℕ))
         → Reached (Handles (M.accepts (M.setting machine.old))) (M.has_taken machine.old) start
         reader.old left (S.left source.old) held (K.held sink.old) waiting.old.items number.old
@@ -331,17 +301,15 @@ fn handle_next<M: Machine, S: Source, K: Sink>(
         }
         NextRecord::Line => {}
     }
-    *number += 1;
-    let said = content(line);
-    match handle_alone(alloc, machine, said, *number, text, waiting) {
+    match handle_given(alloc, machine, line, reader, number, text, waiting) {
         Some(ended) => Some(finish(sink, waiting, ended)),
         None => None,
     }
 }
 
-/// Handles the records that a reader gives. It takes each line as it comes, uses one reader of `csv` for the
-/// lines that the reader holds, and writes their output before it asks the source for more. Answers Done at
-/// the end of the input; what is written at the end is left to the caller.
+/// Handles the records that a reader gives. It takes each line as it comes, uses one reader of `csv` for it and
+/// the lines that the reader then holds, and writes their output before it asks the source for more. Answers Done
+/// at the end of the input; what is written at the end is left to the caller.
 pub fn handle_records<M: Machine, S: Source, K: Sink>(
     alloc: Global,
     machine: &mut M,
@@ -384,10 +352,6 @@ pub fn handle_records<M: Machine, S: Source, K: Sink>(
     let mut waiting = Vec::new(alloc);
     let mut number: u32 = 0;
     'records: loop {
-        match handle_held(alloc, machine, reader, &mut number, &mut text, &mut waiting) {
-            Some(ended) => return finish(sink, &waiting, ended),
-            None => {}
-        }
         match handle_next(
             alloc,
             machine,

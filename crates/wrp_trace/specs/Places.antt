@@ -17,6 +17,8 @@ use Rattle.wrp_trace.specs.declared.events.marks.Marks.{Marks}
 use Rattle.wrp_trace.specs.declared.events.marks.Named.{Named}
 use Rattle.wrp_trace.specs.declared.events.marks.Named.TheVariants.{Node, Link, Nothing}
 use Rattle.wrp_trace.specs.declared.events.place.EventPlace.{EventPlace}
+use Rattle.wrp_trace.specs.declared.events.place.Part.{Part}
+use Rattle.wrp_trace.specs.declared.events.place.Part.TheVariants.{Passing, Ticking, Sampling, Other}
 
 -- For one kind, nodes or links: a mark and a change for each
 
@@ -155,6 +157,13 @@ pub record IsPassing (cfg : NetCfg) (marks : Marks) (e : Event) : Type 0 where
 abbrev pub IsPlaceOf : NetCfg → EventPlace → Type 0
 IsPlaceOf cfg place = IsPassing cfg place.marks place.passing
 
+-- the event in a part of a place
+abbrev pub event_at : EventPlace → Part → Event
+event_at place Passing = place.passing
+event_at place Ticking = place.ticking
+event_at place Sampling = place.sampling
+event_at place Other = place.other
+
 -- the event that was read last
 abbrev pub event_in : EventPlace → Event
-event_in place = if place.is_pass then place.passing else place.other
+event_in place = event_at place place.last

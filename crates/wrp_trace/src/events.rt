@@ -13,6 +13,7 @@ mod names;
 mod place;
 mod printing;
 mod swaps;
+mod writing;
 
 use crate::fields::{bits_at, octets_at, raw_from, step_at, time_at, u16_at, u32_at};
 use csv::ByteRecord;
@@ -22,6 +23,7 @@ pub use place::{EventPlace, read_event_into};
 pub use printing::event_line;
 use std::alloc::Global;
 use swaps::swaps_at;
+use writing::{write_sample, write_tick};
 use wrp_base::TraceFault;
 use wrp_config::Network;
 use wrp_course::Event;
@@ -64,7 +66,7 @@ fn tick(row: &ByteRecord, cfg: &NetCfg, event: &mut Event) -> Result<(), TraceFa
     ensures event { OnOk result (IsEventOf cfg.now event.new) }
 {
     let node = node_at(row, 2, cfg)?;
-    *event = Event::Tick { node };
+    write_tick(event, node);
     Ok(())
 }
 
@@ -76,11 +78,12 @@ fn sample(row: &ByteRecord, cfg: &NetCfg, event: &mut Event) -> Result<(), Trace
     let node = node_at(row, 2, cfg)?;
     let base = step_at(row, 3)?;
     let bits = bits_at(row, 4)?;
-    *event = Event::Sample { node, base, bits };
+    write_sample(event, node, base, bits);
     Ok(())
 }
 
 // `depart,NODE,PORT,STAMP`.
+#[inline(never)]
 fn depart(row: &ByteRecord, cfg: &NetCfg, event: &mut Event) -> Result<(), TraceFault>
     ensures value { told_in result event.new ≡ depart_of cfg.now (fields_of row.now) }
     ensures event { OnOk result (IsEventOf cfg.now event.new) }
@@ -93,6 +96,7 @@ fn depart(row: &ByteRecord, cfg: &NetCfg, event: &mut Event) -> Result<(), Trace
 }
 
 // `arrive,K,RISING,FALLING,TAG`.
+#[inline(never)]
 fn arrive(row: &ByteRecord, cfg: &NetCfg, event: &mut Event) -> Result<(), TraceFault>
     ensures value { told_in result event.new ≡ arrive_of (fields_of row.now) }
     ensures event { OnOk result (IsEventOf cfg.now event.new) }
@@ -105,6 +109,7 @@ fn arrive(row: &ByteRecord, cfg: &NetCfg, event: &mut Event) -> Result<(), Trace
 }
 
 // `deliver,K`.
+#[inline(never)]
 fn deliver(row: &ByteRecord, cfg: &NetCfg, event: &mut Event) -> Result<(), TraceFault>
     ensures value { told_in result event.new ≡ deliver_of (fields_of row.now) }
     ensures event { OnOk result (IsEventOf cfg.now event.new) }
@@ -116,6 +121,7 @@ fn deliver(row: &ByteRecord, cfg: &NetCfg, event: &mut Event) -> Result<(), Trac
 }
 
 // `noise,NODE,PORT,HEX,RISING,FALLING,TAG`.
+#[inline(never)]
 fn noise(row: &ByteRecord, cfg: &NetCfg, event: &mut Event) -> Result<(), TraceFault>
     ensures value { told_in result event.new ≡ noise_of cfg.now (fields_of row.now) }
     ensures event { OnOk result (IsEventOf cfg.now event.new) }
@@ -134,6 +140,7 @@ fn noise(row: &ByteRecord, cfg: &NetCfg, event: &mut Event) -> Result<(), TraceF
 }
 
 // `down,NODE`.
+#[inline(never)]
 fn down(row: &ByteRecord, cfg: &NetCfg, event: &mut Event) -> Result<(), TraceFault>
     ensures value { told_in result event.new ≡ down_of cfg.now (fields_of row.now) }
     ensures event { OnOk result (IsEventOf cfg.now event.new) }
@@ -144,6 +151,7 @@ fn down(row: &ByteRecord, cfg: &NetCfg, event: &mut Event) -> Result<(), TraceFa
 }
 
 // `up,NODE,OFF[,PORT:MODULE:TX:RX]`.
+#[inline(never)]
 fn up(row: &ByteRecord, cfg: &NetCfg, event: &mut Event) -> Result<(), TraceFault>
     requires { length (fields_of row.now) ≤ 21 }
     ensures value { told_in result event.new ≡ up_of cfg.now (fields_of row.now) }
@@ -157,6 +165,7 @@ fn up(row: &ByteRecord, cfg: &NetCfg, event: &mut Event) -> Result<(), TraceFaul
 }
 
 // `cut,LINK`.
+#[inline(never)]
 fn cut(row: &ByteRecord, cfg: &NetCfg, event: &mut Event) -> Result<(), TraceFault>
     ensures value { told_in result event.new ≡ cut_of cfg.now (fields_of row.now) }
     ensures event { OnOk result (IsEventOf cfg.now event.new) }
@@ -167,6 +176,7 @@ fn cut(row: &ByteRecord, cfg: &NetCfg, event: &mut Event) -> Result<(), TraceFau
 }
 
 // `join,LINK,MS,SM`.
+#[inline(never)]
 fn join(row: &ByteRecord, cfg: &NetCfg, event: &mut Event) -> Result<(), TraceFault>
     ensures value { told_in result event.new ≡ join_of cfg.now (fields_of row.now) }
     ensures event { OnOk result (IsEventOf cfg.now event.new) }

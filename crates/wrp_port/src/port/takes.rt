@@ -1,9 +1,11 @@
 //! What a port does with each kind of input.
-ghost use Rattle.std.specs.Prelude.{◌≡◌, ◌^◌, [], List, None, unsigned_abs, IfSome, IsTrue, true, false};
+ghost use Rattle.std.specs.Prelude.{◌≡◌, ◌≤◌, ◌^◌, [], List, length, None, unsigned_abs, IfSome, IsTrue, true, false};
 ghost use Rattle.wrp_exch.specs.Call.{Call};
 ghost use Rattle.wrp_exch.specs.Exchange.{StandsFor as ExchangeStandsFor, HasTimes};
 ghost use Rattle.wrp_link.specs.declared.interface.LinkIn.TheVariants as link;
-ghost use Rattle.wrp_port.specs.LineAfter.{new_line, after, told};
+ghost use Rattle.wrp_link.specs.Table.{sends_of as link_sends_of};
+ghost use Rattle.wrp_port.specs.LineAfter.{new_line, after, ticked, told};
+ghost use Rattle.wrp_port.specs.Messages.{signals_of};
 ghost use Rattle.wrp_port.specs.Outputs.{sends_of, due_request, sent_call, sample_call, news_call, with_call, calls_after, drop_of, measured_by, follow_ups, is_dropped_early, is_newest, IsPortReason};
 ghost use Rattle.wrp_port.specs.PortAt.{IsFit, IsStamp};
 
@@ -102,11 +104,37 @@ impl Port {
             (calls_after self.old.set self.old.line (PortIn.Tick locked certain) calls) }
         ensures sends { sends.new.items ≡ sends_of self.old.set self.old.line (PortIn.Tick locked certain) }
     {
+        self.tick_link(locked, sends);
+        self.note_request();
+        self.line.schedule(&self.set, certain, sends);
+    }
+
+    // The link's part of a tick, and what the link sends.
+    fn tick_link(&mut self, locked: bool, sends: &mut Sends)
+        requires { sends.old.items ≡ [] }
+        ensures line { self.new ≡ record self.old { line = ticked self.old.set self.old.line locked } }
+        ensures sends { sends.new.items ≡ signals_of self.old.set self.old.line.ids.signal
+            (link_sends_of self.old.line.link (link.Tick locked)) }
+        ensures room { length sends.new.items ≤ 2 }
+    {
+        if !self.line.tick_on(&self.set, locked) {
+            self.tick_handshake(locked, sends);
+        }
+    }
+
+    // The same in a handshake. What the link answers is large: it has a frame of its own, so that no other tick
+    // needs room for it.
+    #[inline(never)]
+    fn tick_handshake(&mut self, locked: bool, sends: &mut Sends)
+        requires { sends.old.items ≡ [] }
+        ensures line { self.new ≡ record self.old { line = ticked self.old.set self.old.line locked } }
+        ensures sends { sends.new.items ≡ signals_of self.old.set self.old.line.ids.signal
+            (link_sends_of self.old.line.link (link.Tick locked)) }
+        ensures room { length sends.new.items ≤ 2 }
+    {
         let first = self.line.ids.signal;
         let out = self.line.tick(&self.set, locked);
-        self.note_request();
         send_signals(&self.set, first, &out.sends, sends);
-        self.line.schedule(&self.set, certain, sends);
     }
 
     // Gives the exchange of a slave the Delay_Req that is due.

@@ -1,13 +1,13 @@
-//! The lines that a reader holds, handled one after the other: one reader of `csv` serves them all.
-ghost use Rattle.std.specs.Prelude.{◌≡◌, true, ◌+◌, ◌<◌, ◌≤◌, ◌++◌, ℕ, Bool, List, Option, Some, IfSome, length, drop};
-ghost use Rattle.wrp_fields.specs.Block.{StartsPlain};
+//! A line that was given and the lines that the reader holds after it, handled one after the other: one reader of
+//! `csv` serves them all.
+ghost use Rattle.std.specs.Prelude.{◌≡◌, ◌⊎◌, true, ◌+◌, ◌<◌, ◌≤◌, ◌++◌, [], ℕ, Bool, List, Option, Some, IfSome, length, drop};
 ghost use Rattle.wrp_fields.specs.Lines.{IsLine};
-ghost use Rattle.wrp_records.specs.Lines.{content_of, IsPlainText, IsWhole};
+ghost use Rattle.wrp_records.specs.Lines.{content_of, HasNoFeed, IsPlainText, IsWhole};
 ghost use Rattle.wrp_records.specs.Reached.{Reached, Comes};
-ghost use Rattle.wrp_records.specs.Reader.{piece_limit};
+ghost use Rattle.wrp_records.specs.Reader.{IsNext, piece_limit};
 ghost use Rattle.wrp_records.specs.Stream.{Handles, IsWithin, number_limit};
 
-use super::splitting::split_next;
+use super::splitting::{split_first, split_next};
 use super::{Ended, LINE_LIMIT, handle_line};
 use crate::feed::first_whole;
 use crate::line::content;
@@ -130,69 +130,97 @@ fn handle_block<M: Machine>(
     }
 }
 
-// Handles the lines that a reader holds, which are the lines of these octets, up to the first line
-// that is not whole or not plain. The reader passes over them afterwards, so that none has to be
-// copied.
-fn handle_plain<M: Machine>(
+// Handles a plain line and then the lines of these octets, which follow it, up to the first line that is not
+// whole or not plain. The reader passes over them afterwards, so that none of them has to be copied.
+fn handle_front<M: Machine>(
     alloc: Global,
     machine: &mut M,
+    line: &[u8],
     octets: &[u8],
     number: &mut u32,
     text: &mut Vec<u8>,
     waiting: &mut Vec<u8>,
 ) -> Handled
-    requires starts { StartsPlain octets.now }
+    requires plain { IsLine (content_of line.now) }
+    requires next { IsWhole line.now ⊎ (HasNoFeed line.now × (octets.now ≡ [])) }
+    requires within { IsWithin line.now }
+    requires number { number.old + 1 < number_limit }
     requires piece { length octets.now ≤ piece_limit }
     requires ready { M.is_ready machine.old }
     requires count { M.count machine.old ≤ number.old }
     ensures ready { M.is_ready machine.new }
     ensures count { M.count machine.new ≤ number.new }
     ensures setting { M.setting machine.new ≡ M.setting machine.old }
-    ensures more { number.old ≤ number.new }
+    ensures more { number.old < number.new }
     ensures size { result.size ≤ length octets.now }
     ensures stands { (ended : Bool) (start : List ℕ) (left rest held now : Option (List ℕ))
+        → IsNext line.now (record { rest = octets.now; ended = ended })
         → Reached (Handles (M.accepts (M.setting machine.old))) (M.has_taken machine.old) start
-        (record { rest = octets.now; ended = ended }) left rest held now waiting.old.items number.old
+        (record { rest = line.now ++ octets.now; ended = ended })
+        left rest held now waiting.old.items number.old
         → Comes (M.accepts (M.setting machine.old)) (M.refuses (M.setting machine.old))
         (M.has_taken machine.new) start (record { rest = drop result.size octets.now; ended = ended })
         left rest held now waiting.new.items number.new result.ended }
 {
+    *number += 1;
+    let said = content(line);
     let mut row = ByteRecord::new(alloc);
-    let mut block = Block::new(alloc, octets);
+    let mut block = Block::joined(alloc, line, octets);
+    match split_first(&mut block, line, octets, &mut row) {
+        Ok(()) => {}
+        Err(_) => return Handled {
+            size: 0,
+            ended: Some(Ended::Memory),
+        },
+    }
+    match handle_line(alloc, machine, said, Some(&row), *number, text, waiting) {
+        Some(ended) => return Handled {
+            size: 0,
+            ended: Some(ended),
+        },
+        None => {}
+    }
     handle_block(
         alloc, machine, octets, &mut block, &mut row, number, text, waiting,
     )
 }
 
-/// Handles the lines that a reader holds, up to the first line that is not whole or not plain. None
-/// if no line ended the run.
-pub fn handle_held<M: Machine>(
+/// Handles a line that a reader gave and, if it is plain, the lines that the reader holds after it, up to the
+/// first line that is not whole or not plain. None if no line ended the run.
+pub fn handle_given<M: Machine>(
     alloc: Global,
     machine: &mut M,
+    line: &[u8],
     reader: &mut Reader,
     number: &mut u32,
     text: &mut Vec<u8>,
     waiting: &mut Vec<u8>,
 ) -> Option<Ended>
+    requires next { IsNext line.now reader.old }
+    requires within { IsWithin line.now }
+    requires number { number.old + 1 < number_limit }
+    requires piece { length reader.old.rest ≤ piece_limit }
     requires ready { M.is_ready machine.old }
     requires count { M.count machine.old ≤ number.old }
     ensures ready { M.is_ready machine.new }
     ensures count { M.count machine.new ≤ number.new }
     ensures setting { M.setting machine.new ≡ M.setting machine.old }
     ensures ended { reader.new.ended ≡ reader.old.ended }
-    ensures more { number.old ≤ number.new }
+    ensures more { number.old < number.new }
     ensures stands { (start : List ℕ) (left rest held now : Option (List ℕ))
         → Reached (Handles (M.accepts (M.setting machine.old))) (M.has_taken machine.old) start
-        reader.old left rest held now waiting.old.items number.old
+        (record { rest = line.now ++ reader.old.rest; ended = reader.old.ended })
+        left rest held now waiting.old.items number.old
         → Comes (M.accepts (M.setting machine.old)) (M.refuses (M.setting machine.old))
         (M.has_taken machine.new) start reader.new left rest held now waiting.new.items
         number.new result }
 {
-    let Some(line) = plain_line(reader.held(), false, *number) else {
-        return None;
-    };
-    let _line = line;
-    let handled = handle_plain(alloc, machine, reader.held(), number, text, waiting);
+    let said = content(line);
+    if !is_plain(said) {
+        *number += 1;
+        return handle_line(alloc, machine, said, None, *number, text, waiting);
+    }
+    let handled = handle_front(alloc, machine, line, reader.held(), number, text, waiting);
     reader.pass(handled.size);
     handled.ended
 }

@@ -310,7 +310,8 @@ impl Marks {
     }
 
     // What a name stands for. Names are mostly in file order: those that follow the names found last are
-    // tried first, and then all.
+    // tried first, and then all. The node after the next is tried too, since a node whose clock does not
+    // move, such as the grandmaster, is not named.
     fn find(&self, cfg: &NetCfg, name: &[u8]) -> Named
         requires { self.now.apart ≡ true → FindsEach cfg.now }
         ensures { StandsFor cfg.now name.now result }
@@ -319,6 +320,9 @@ impl Marks {
             return by_name(cfg, name);
         }
         if let Some(n) = node_here(cfg, self.next_node, name) {
+            return Named::Node(n);
+        }
+        if let Some(n) = node_here(cfg, self.next_node.saturating_add(1), name) {
             return Named::Node(n);
         }
         if let Some(l) = link_here(cfg, self.next_link, name) {

@@ -20,16 +20,34 @@ use wrp_network::NetCfg;
 // The place of the first field.
 const KIND: u32 = 1;
 
+/// The part of a place that has an event.
+#[derive(Clone, Copy, Debug)]
+pub enum Part {
+    /// The part for each `pass`.
+    Passing,
+    /// The part for each `tick`.
+    Ticking,
+    /// The part for each `sample`.
+    Sampling,
+    /// The part for any other event.
+    Other,
+}
+
 /// A place for the events of a network's lines, which serves line after line: an event has room for the changes
-/// of 64 nodes and 63 links. For a `pass`, only what it names and what the previous one named is written.
+/// of 64 nodes and 63 links. For a `pass`, only what it names and what the previous one named is written. The
+/// other two kinds that come often have a part of their own, so that only a few numbers are written.
 #[derive(Debug, Drop)]
 pub struct EventPlace {
     // The last `pass`.
     passing: Event,
-    // The last event that is not a `pass`.
+    // The last `tick`.
+    ticking: Event,
+    // The last `sample`.
+    sampling: Event,
+    // The last event of another kind.
     other: Event,
-    // Which of the two was read last.
-    is_pass: bool,
+    // The part that was read into last.
+    last: Part,
     // What the last `pass` names.
     marks: Marks,
 }
@@ -60,8 +78,10 @@ impl EventPlace {
         let passing = still(cfg, &marks);
         EventPlace {
             passing,
+            ticking: Event::Tick { node: 0 },
+            sampling: Event::Tick { node: 0 },
             other: Event::Tick { node: 0 },
-            is_pass: false,
+            last: Part::Other,
             marks,
         }
     }
@@ -70,10 +90,11 @@ impl EventPlace {
     pub fn event(&self) -> &Event
         ensures { result.now ≡ event_in self.now }
     {
-        if self.is_pass {
-            &self.passing
-        } else {
-            &self.other
+        match self.last {
+            Part::Passing => &self.passing,
+            Part::Ticking => &self.ticking,
+            Part::Sampling => &self.sampling,
+            Part::Other => &self.other,
         }
     }
 
@@ -81,10 +102,11 @@ impl EventPlace {
     pub fn into_event(self) -> Event
         ensures { result ≡ event_in self }
     {
-        if self.is_pass {
-            self.passing
-        } else {
-            self.other
+        match self.last {
+            Part::Passing => self.passing,
+            Part::Ticking => self.ticking,
+            Part::Sampling => self.sampling,
+            Part::Other => self.other,
         }
     }
 }
@@ -134,14 +156,20 @@ fn read_kind_into(
     ensures event { OnOk result (IsEventOf cfg.now (event_in place.new)) }
     ensures place { IsPlaceOf cfg.now place.new }
 {
-    place.is_pass = false;
+    place.last = Part::Other;
     match kind {
         EventKind::Pass => {
-            place.is_pass = true;
+            place.last = Part::Passing;
             pass_into(row, cfg, &mut place.passing, &mut place.marks)
         }
-        EventKind::Tick => tick(row, cfg, &mut place.other),
-        EventKind::Sample => sample(row, cfg, &mut place.other),
+        EventKind::Tick => {
+            place.last = Part::Ticking;
+            tick(row, cfg, &mut place.ticking)
+        }
+        EventKind::Sample => {
+            place.last = Part::Sampling;
+            sample(row, cfg, &mut place.sampling)
+        }
         EventKind::Depart => depart(row, cfg, &mut place.other),
         EventKind::Arrive => arrive(row, cfg, &mut place.other),
         EventKind::Deliver => deliver(row, cfg, &mut place.other),

@@ -1,12 +1,14 @@
 -- The next record is handled, or ends the handling.
-use Rattle.std.proofs.Common.{◌≡◌, ◌∙◌, ◌+◌, Bool, false, ℕ, length, map, refl, ap, arith}
-use Rattle.std.proofs.lemmas.List.{length-map}
+use Rattle.std.proofs.Common.{◌≡◌, ◌++◌, Bool, false, ℕ, refl, sym}
 use Rattle.wrp_io.specs.Faults.{Rose}
 use Rattle.wrp_records.specs.declared.engine.NextRecord.TheVariants as next
 use Rattle.wrp_records.specs.declared.status.Status.TheVariants.{Done, ReadFault, WriteFault, OutOfMemory}
 use Rattle.wrp_records.specs.Engine.{Finishes, TellsFaults, status_by}
-use Rattle.wrp_records.specs.Lines.{content_of}
-use Rattle.wrp_records.proofs.Reaching.{comes, writes_on, ends, fails, unwritten, no_memory, too_large, stops, goes_on, moved, told_by_finish}
+use Rattle.wrp_records.specs.Reached.{Reached}
+use Rattle.wrp_records.specs.Reader.{ReaderAt}
+use Rattle.wrp_records.specs.Stream.{Handles}
+use Rattle.wrp_records.proofs.Passing.{arrives}
+use Rattle.wrp_records.proofs.Reaching.{comes, writes_on, ends, fails, unwritten, no_memory, too_large, closes_by, moved, told_by_finish}
 use Rattle.wrp_records.proofs.engine.handle_next.Goals as goal
 
 -- what a failed read, a failed write and the end report
@@ -75,25 +77,22 @@ returns-in-TooLarge-clause-stands g c = λ start left held reached.
 pub returns-in-Some-clause-stands : goal.returns-in-Some-clause-stands
 returns-in-Some-clause-stands g c = λ start left held reached.
     let line = c.next_record.new.line.items in
-    let so_far = writes_on _ _ _ line c.next_record.new.reader _ _ _ _ _ _ _ _
-    (comes _ _ _ line _ c.next_record.new.reader _ _ _ _ _ _ _ reached c.next_record.ensures.taken) c.in-Line.ensures.written in
-    let said : c.content-said.result.now ≡ content_of line = c.content-said.ensures ∙ ap content_of c.deref-2.ensures.value in
-    let count : c.args.number.now + 1 ≡ length (map content_of so_far.lines) + 1 =
-    let same : length (map content_of so_far.lines) ≡ length so_far.lines = length-map _ _ in omega (arith, so_far.count, same) in
-    let outcome = c.in-Some.ensures.stands (map content_of so_far.lines) so_far.text so_far.has so_far.handled.accepted count in
+    let r : ReaderAt = c.next_record.new.reader in
+    let so_far = writes_on _ _ _ line r _ _ _ _ _ _ _ _ (comes _ _ _ line _ r _ _ _ _ _ _ _ reached c.next_record.ensures.taken) c.in-Line.ensures.written in
+    let there = moved (λ l. Reached (Handles (g.M.Machine.accepts (g.M.Machine.setting c.args.machine.now))) (g.M.Machine.has_taken c.args.machine.now) start (record { rest = l ++ r.rest; ended = r.ended }) left (g.S.Source.left c.next_record.new.source) held (g.K.Sink.held c.next_record.new.sink) c.next_record.new.waiting.items c.args.number.now)
+    _ _ (sym c.deref-2.ensures.value) (arrives _ _ start line r _ _ _ _ _ _ so_far) in
     let how = moved (λ octets. Finishes (status_by c.in-Some.ended) c.finish-in-Some.result (g.K.Sink.held c.next_record.new.sink) (g.K.Sink.held c.finish-in-Some.new.sink) octets) _ _ c.deref-in-Some.ensures.value c.finish-in-Some.ensures.text in
-    stops _ _ _ _ _ line _ _ _ _ _ _ _ _ _ _ c.in-Some.ended _ so_far (c.in-Line.ensures.line refl) said outcome how
+    closes_by _ _ (g.M.Machine.has_taken c.handle_given.new.machine) _ _ _ _ _ _ _ _ _ _
+    (c.in-Some.ensures.stands start left (g.S.Source.left c.next_record.new.source) held (g.K.Sink.held c.next_record.new.sink) there) how
 
 pub returns-in-None-clause-stands : goal.returns-in-None-clause-stands
 returns-in-None-clause-stands g c = λ start left held reached.
     let line = c.next_record.new.line.items in
-    let so_far = writes_on _ _ _ line c.next_record.new.reader _ _ _ _ _ _ _ _
-    (comes _ _ _ line _ c.next_record.new.reader _ _ _ _ _ _ _ reached c.next_record.ensures.taken) c.in-Line.ensures.written in
-    let said : c.content-said.result.now ≡ content_of line = c.content-said.ensures ∙ ap content_of c.deref-2.ensures.value in
-    let count : c.args.number.now + 1 ≡ length (map content_of so_far.lines) + 1 =
-    let same : length (map content_of so_far.lines) ≡ length so_far.lines = length-map _ _ in omega (arith, so_far.count, same) in
-    goes_on _ (g.M.Machine.refuses (g.M.Machine.setting c.args.machine.now)) _ _ _ line _ _ _ _ _ _ _ _ _ so_far (c.in-Line.ensures.line refl) said
-    (c.in-None.ensures.stands (map content_of so_far.lines) so_far.text so_far.has so_far.handled.accepted count)
+    let r : ReaderAt = c.next_record.new.reader in
+    let so_far = writes_on _ _ _ line r _ _ _ _ _ _ _ _ (comes _ _ _ line _ r _ _ _ _ _ _ _ reached c.next_record.ensures.taken) c.in-Line.ensures.written in
+    let there = moved (λ l. Reached (Handles (g.M.Machine.accepts (g.M.Machine.setting c.args.machine.now))) (g.M.Machine.has_taken c.args.machine.now) start (record { rest = l ++ r.rest; ended = r.ended }) left (g.S.Source.left c.next_record.new.source) held (g.K.Sink.held c.next_record.new.sink) c.next_record.new.waiting.items c.args.number.now)
+    _ _ (sym c.deref-2.ensures.value) (arrives _ _ start line r _ _ _ _ _ _ so_far) in
+    c.in-None.ensures.stands start left (g.S.Source.left c.next_record.new.source) held (g.K.Sink.held c.next_record.new.sink) there
 
 pub returns-in-End-clause-faults : goal.returns-in-End-clause-faults
 returns-in-End-clause-faults g c = told_end _ _ _ _ _ c.in-End.ensures.read_kept c.in-End.ensures.write_kept
