@@ -1,5 +1,6 @@
 -- Lists by their places, and numbers one after another.
-use Rattle.std.proofs.Common.{◌≡◌, ◌∙◌, refl, ap, sym, subst, ℕ, zero, suc, ◌+◌, ◌-◌, ◌<◌, ◌≤◌, ℤ, Bool, true, false, cond, List, [], ◌∷◌, ◌++◌, map, find, fold, replicate, take, drop, remove, slice_set, None, Some, option_map, nat_lt, slice_get, arith}
+use Rattle.std.proofs.Common.{◌≡◌, ◌∙◌, refl, ap, sym, subst, ℕ, zero, suc, ◌+◌, ◌-◌, ◌<◌, ◌≤◌, ℤ, Bool, true, false, cond, List, [], ◌∷◌, ◌++◌, length, map, find, fold, replicate, take, drop, remove, slice_set, None, Some, option_map, nat_lt, slice_get, arith}
+use Rattle.std.proofs.Math.Seq.{take-suc-set}
 use Rattle.std.proofs.lemmas.Option.{none-some, same_Some}
 use Rattle.wrp_base.proofs.Lists.{append_assoc}
 use Rattle.wrp_plant.specs.Plant.{Each}
@@ -101,6 +102,18 @@ fold_end g best count i h =
 pub fold_append : (g : ℤ → ℤ → ℤ) (best : ℤ) (xs ys : List ℤ) → fold g best (xs ++ ys) ≡ fold g (fold g best xs) ys
 fold_append g best [] ys = refl
 fold_append g best (x ∷ xs) ys = fold_append g (g best x) xs ys
+
+-- one more place of a list is set
+pub take_next : (f : ℕ → ℤ) (xs : List ℤ) (i : ℕ) (y : ℤ) → i < length xs → y ≡ f i → take i xs ≡ map f (from_on i 0) →
+    take (i + 1) (slice_set xs i y) ≡ map f (from_on (i + 1) 0)
+take_next f xs i y h e is =
+    let next : i + 1 ≡ suc i = omega arith in
+    let plain : i ≡ 0 + i = omega arith in
+    ap (λ (k : ℕ). take k (slice_set xs i y)) next
+    ∙ take-suc-set xs i y h
+    ∙ ap (λ (l : List ℤ). l ++ (y ∷ [])) is
+    ∙ ap (λ (z : ℤ). map f (from_on i 0) ++ (z ∷ [])) (e ∙ ap f plain)
+    ∙ sym (map_more f 0 i)
 
 -- What is taken out of a list
 
