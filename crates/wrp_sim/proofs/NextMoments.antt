@@ -1,6 +1,6 @@
 -- The soonest of the tick times of the nodes that are up, if it is known which time is the next one; and that no
 -- node ticks now.
-use Rattle.std.proofs.Common.{◌≡◌, ◌∙◌, refl, ap, ap₂, sym, subst, ℕ, zero, suc, ◌+◌, ◌<◌, ◌≤◌, ◌⊎◌, inl, inr, ℤ, ◌≤ℤ◌, ◌<ℤ◌, ◌&&◌, Bool, true, false, cond, if◌then◌else◌, List, [], ◌∷◌, length, map, filter, find, fold, Option, None, Some, slice_get, arith}
+use Rattle.std.proofs.Common.{◌≡◌, ◌∙◌, refl, ap, sym, subst, ℕ, zero, suc, ◌+◌, ◌-◌, ◌<◌, ◌≤◌, ◌⊎◌, inl, inr, ℤ, ◌≤ℤ◌, ◌<ℤ◌, ◌&&◌, Bool, true, false, cond, List, [], ◌∷◌, length, map, filter, find, fold, None, Some, slice_get, arith}
 use Rattle.std.proofs.lemmas.Int.{ints}
 use Rattle.std.specs.List.{AllByRecursion}
 use Rattle.std.specs.Ordering.{int_eq}
@@ -8,10 +8,11 @@ use Rattle.wrp_plant.specs.Plant.{Each}
 use Rattle.wrp_network.specs.Network.{node_count}
 use Rattle.wrp_course.specs.Setting.{Setting, from_on, nodes_of}
 use Rattle.wrp_course.specs.WorldAt.{WorldAt}
-use Rattle.wrp_sim.specs.NextTick.{IsNext, NoneAt}
+use Rattle.wrp_sim.specs.NextTick.{IsNext, NoneAt, NoneBefore}
 use Rattle.wrp_sim.specs.Rules.{sooner, tick_times, ticks_now}
 use Rattle.wrp_sim.specs.SimAt.{SimAt}
 use Rattle.wrp_sim.proofs.KeepsTime.{fold_least, fold_most}
+use Rattle.wrp_sim.proofs.SimLists.{skipped}
 
 -- Numbers from a first one on, some of which pass
 
@@ -135,3 +136,13 @@ none_ticks s w at ticks count each none = sym (none_found (ticks_now w at) (node
       let it : (x : ℤ) × (slice_get ticks i ≡ Some x) = time_at ticks i (subst (λ m. i < m) (sym count) l) in
       ap (λ b. (w.clock (0 + i)).up && b) (ap (λ z. int_eq z w.time) (ap at.tick_at (sym plain) ∙ sym (each i it.0 it.1)) ∙ none i it.0 it.1)
       ∙ not_up (w.clock (0 + i)).up
+
+-- the nodes before a place do not tick if none of their times is now
+pub skips_ticks : (w : WorldAt) (at : SimAt) (ticks : List ℤ) (count start : ℕ) → count ≤ length ticks → Each (λ m x. x ≡ at.tick_at m) ticks →
+    NoneBefore w.time ticks start → find (ticks_now w at) (from_on (count - start) start) ≡ find (ticks_now w at) (from_on count 0)
+skips_ticks w at ticks count start most each none = skipped (ticks_now w at) count start (λ i l m. not_now i l m) where
+  not_now : (i : ℕ) → i < start → i < count → ticks_now w at i ≡ false
+  not_now i l m =
+      let it : (x : ℤ) × (slice_get ticks i ≡ Some x) = time_at ticks i (omega (arith, most, m)) in
+      ap (λ b. (w.clock i).up && b) (ap (λ z. int_eq z w.time) (sym (each i it.0 it.1)) ∙ none i it.0 l it.1)
+      ∙ not_up (w.clock i).up

@@ -1,5 +1,6 @@
 -- Lists by their places, and numbers one after another.
-use Rattle.std.proofs.Common.{◌≡◌, ◌∙◌, refl, ap, sym, subst, ℕ, zero, suc, ◌+◌, ◌-◌, ◌<◌, ◌≤◌, ℤ, Bool, true, false, cond, List, [], ◌∷◌, ◌++◌, map, find, fold, replicate, take, drop, remove, slice_set, None, Some, option_map, slice_get, arith}
+use Rattle.std.proofs.Common.{◌≡◌, ◌∙◌, refl, ap, sym, subst, ℕ, zero, suc, ◌+◌, ◌-◌, ◌<◌, ◌≤◌, ℤ, Bool, true, false, cond, List, [], ◌∷◌, ◌++◌, length, map, find, fold, replicate, take, drop, remove, slice_set, None, Some, option_map, nat_lt, slice_get, arith}
+use Rattle.std.proofs.Math.Seq.{take-suc-set}
 use Rattle.std.proofs.lemmas.Option.{none-some, same_Some}
 use Rattle.wrp_base.proofs.Lists.{append_assoc}
 use Rattle.wrp_plant.specs.Plant.{Each}
@@ -40,6 +41,22 @@ found_at p count i h e = find_more p count i h ∙ ap (λ b. cond b (Some i) (fi
 
 pub passed_at : (p : ℕ → Bool) (count i : ℕ) → i < count → p i ≡ false → find p (from_on (count - i) i) ≡ find p (from_on (count - (i + 1)) (i + 1))
 passed_at p count i h e = find_more p count i h ∙ ap (λ b. cond b (Some i) (find p (from_on (count - (i + 1)) (i + 1)))) e
+
+-- those that are skipped do not pass
+pub skipped : (p : ℕ → Bool) (count start : ℕ) → ((i : ℕ) → i < start → i < count → p i ≡ false) →
+    find p (from_on (count - start) start) ≡ find p (from_on count 0)
+skipped p count zero h =
+    let all : count - 0 ≡ count = omega arith in
+    ap (λ (k : ℕ). find p (from_on k 0)) all
+skipped p count (suc i) h = by_test (nat_lt i count) refl ∙ skipped p count i (λ j l m. h j (omega (arith, l)) m) where
+  by_test : (b : Bool) → nat_lt i count ≡ b → find p (from_on (count - suc i) (suc i)) ≡ find p (from_on (count - i) i)
+  by_test true e =
+      let below : i < count = grind arith in
+      let next : suc i ≡ i + 1 = omega arith in
+      ap (λ (k : ℕ). find p (from_on (count - k) k)) next ∙ sym (passed_at p count i below (h i (omega arith) below))
+  by_test false e =
+      let most : count ≤ i = grind arith in
+      find_end p count (suc i) (omega (arith, most)) ∙ sym (find_end p count i most)
 
 pub find_map : {A B : Type 0} (p : B → Bool) (f : A → B) (xs : List A) → find p (map f xs) ≡ option_map f (find (λ x. p (f x)) xs)
 find_map p f [] = refl
@@ -85,6 +102,18 @@ fold_end g best count i h =
 pub fold_append : (g : ℤ → ℤ → ℤ) (best : ℤ) (xs ys : List ℤ) → fold g best (xs ++ ys) ≡ fold g (fold g best xs) ys
 fold_append g best [] ys = refl
 fold_append g best (x ∷ xs) ys = fold_append g (g best x) xs ys
+
+-- one more place of a list is set
+pub take_next : (f : ℕ → ℤ) (xs : List ℤ) (i : ℕ) (y : ℤ) → i < length xs → y ≡ f i → take i xs ≡ map f (from_on i 0) →
+    take (i + 1) (slice_set xs i y) ≡ map f (from_on (i + 1) 0)
+take_next f xs i y h e is =
+    let next : i + 1 ≡ suc i = omega arith in
+    let plain : i ≡ 0 + i = omega arith in
+    ap (λ (k : ℕ). take k (slice_set xs i y)) next
+    ∙ take-suc-set xs i y h
+    ∙ ap (λ (l : List ℤ). l ++ (y ∷ [])) is
+    ∙ ap (λ (z : ℤ). map f (from_on i 0) ++ (z ∷ [])) (e ∙ ap f plain)
+    ∙ sym (map_more f 0 i)
 
 -- What is taken out of a list
 

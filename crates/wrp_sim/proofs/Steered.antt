@@ -1,5 +1,5 @@
 -- How far a clock with this steering moves, or a clock whose node is down.
-use Rattle.std.proofs.Common.{◌≡◌, ◌∙◌, ap, sym, ℕ, ℤ, pos, Bool, true, false, if◌then◌else◌, Option, None, Some}
+use Rattle.std.proofs.Common.{◌≡◌, ◌∙◌, ap, sym, ℕ, ℤ, pos, Bool, true, false, if◌then◌else◌, None, Some}
 use Rattle.std.proofs.lemmas.Option.{none-some, same_Some}
 use Rattle.wrp_course.specs.Setting.{Setting}
 use Rattle.wrp_course.specs.WorldAt.{WorldAt}

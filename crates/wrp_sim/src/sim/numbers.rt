@@ -210,6 +210,8 @@ pub fn held_to(kept: Option<u64>, rate: i64) -> i64
 }
 
 // As `drift_at`, where the product of both may need more than 64 bits.
+#[cold]
+#[inline(never)]
 fn drift_far(dt: i64, rate: i64) -> i64
     requires { unsigned_abs rate ≤ 1_000_000_000 }
     ensures { result ≡ number.drift_at dt rate }

@@ -21,6 +21,9 @@ use wrp_world::{Event, Steer, World, start_of};
 /// The longest time that passes at once, in tau.
 const LONGEST: i128 = 1 << 62;
 
+/// The drifts of clocks that do not drift, for as many as a network has at most.
+const AT_REST: [i64; 64] = [0; 64];
+
 /// The moves of fibres that do not move, for as many as a network has at most.
 const STILL: [(i64, i64); 63] = [(0, 0); 63];
 
@@ -77,6 +80,31 @@ fn between(now: Tau, next: Tau) -> i64
     ensures { result ≡ next -ℤ now }
 {
     narrow(difference(next, now))
+}
+
+// So many clocks that do not drift.
+fn at_rest(count: usize) -> &'static [i64]
+    requires { count ≤ 64 }
+    ensures { length result.now ≡ count }
+{
+    &AT_REST[..count]
+}
+
+// Room for so many drifts.
+fn make_room(count: usize, drifts: &mut ArrayVec<i64, 64>)
+    requires { count ≤ 64 }
+    ensures { length drifts.new.items ≡ count }
+{
+    drifts.clear();
+    let _fits = drifts.try_extend_from_slice(at_rest(count));
+}
+
+// The number of a node.
+fn as_number(n: usize) -> u8
+    requires { n < 256 }
+    ensures { result ≡ n }
+{
+    n as u8
 }
 
 // So many fibres that do not move.
@@ -322,7 +350,21 @@ impl State {
         }
     }
 
-    // How far all clocks move in a time.
+    // How far each clock moves in a time, put into its place.
+    fn put_each<F: Fn(i64) -> i64>(&self, world: &World<F>, dt: i64, drifts: &mut [i64])
+        requires valid { IsValid F.pre F.post world.now }
+        requires fits { FitsSim world.now.plant.net.cfg self.now }
+        requires places { length drifts.old ≡ length world.now.nodes }
+        requires few { length drifts.old ≤ 64 }
+        ensures { Tells F.post (λ s w. map (rule.drift_over self.now.scene s w dt) (nodes_of s)) world.now drifts.new }
+    {
+        for n in 0..drifts.len() {
+            drifts[n] = self.drift(world, dt, as_number(n));
+        }
+    }
+
+    // How far all clocks move in a time. There is room for all drifts at first: to put one into its place costs
+    // less than to append it.
     fn put_drifts<F: Fn(i64) -> i64>(
         &self,
         world: &World<F>,
@@ -333,11 +375,8 @@ impl State {
         requires fits { FitsSim world.now.plant.net.cfg self.now }
         ensures { Tells F.post (λ s w. map (rule.drift_over self.now.scene s w dt) (nodes_of s)) world.now drifts.new.items }
     {
-        drifts.clear();
-        let count = world.node_count();
-        for n in 0..count {
-            drifts.push(self.drift(world, dt, n));
-        }
+        make_room(usize::from(world.node_count()), drifts);
+        self.put_each(world, dt, drifts.as_mut_slice());
     }
 
     // The clocks move in this way as a time passes.

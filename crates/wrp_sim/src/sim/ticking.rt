@@ -1,6 +1,7 @@
 //! The ticks of nodes.
 ghost use Rattle.std.specs.Prelude.{◌≡◌, ◌<◌, length, slice_get, Some, IfSome};
 ghost use Rattle.std.specs.List.{find};
+ghost use Rattle.wrp_sim.specs.NextTick.{NoneBefore};
 ghost use Rattle.wrp_sim.specs.Rules as rule;
 ghost use Rattle.wrp_sim.specs.Sim.{FitsSim, Follows, SimIs, StaysFit, as_is, put};
 ghost use Rattle.wrp_sim.specs.SimAt.{SimAt};
@@ -39,16 +40,18 @@ impl State {
         }
     }
 
-    // The first node whose tick time is now: all nodes are asked.
-    fn look_for_tick<F: Fn(i64) -> i64>(&self, world: &World<F>) -> Option<u8>
+    // The first node whose tick time is now: the nodes from a first one on are asked, if it is known that no
+    // earlier one has such a time.
+    fn look_for_tick<F: Fn(i64) -> i64>(&self, world: &World<F>, start: u8) -> Option<u8>
         requires valid { IsValid F.pre F.post world.now }
         requires fits { FitsSim world.now.plant.net.cfg self.now }
+        requires earlier { (s : Setting) (w : WorldAt) → StandsFor F.post s w world.now → NoneBefore w.time self.now.tick_at start }
         ensures value { (s : Setting) (w : WorldAt) (at : SimAt) → StandsFor F.post s w world.now → SimIs at self.now
             → result ≡ find (rule.ticks_now w at) (nodes_of s) }
         ensures within { IfSome result (λ n. n < length world.now.nodes) }
     {
         let count = world.node_count();
-        for n in 0..count {
+        for n in start..count {
             if self.ticks_now(world, n) {
                 return Some(n);
             }
@@ -56,7 +59,8 @@ impl State {
         None
     }
 
-    // The first node whose tick time is now: no node is asked if it is known that there is none.
+    // The first node whose tick time is now: no node is asked if it is known that there is none, and no more than
+    // one if the first of the times is now and its node is up.
     fn first_tick<F: Fn(i64) -> i64>(&self, world: &World<F>) -> Option<u8>
         requires valid { IsValid F.pre F.post world.now }
         requires fits { FitsSim world.now.plant.net.cfg self.now }
@@ -68,7 +72,8 @@ impl State {
         if self.tick_at.none_at(now) {
             None
         } else {
-            self.look_for_tick(world)
+            let start = self.tick_at.place_at(now);
+            self.look_for_tick(world, start)
         }
     }
 

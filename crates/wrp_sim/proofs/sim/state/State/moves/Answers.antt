@@ -1,8 +1,7 @@
-use Rattle.std.proofs.Common.{rules, ◌∙◌, ap, ap₂, ℕ, ℤ, FitsSigned}
+use Rattle.std.proofs.Common.{rules, ◌∙◌, ap, ap₂, ℤ, FitsSigned}
 use Rattle.std.proofs.lemmas.Int.{to_z-of_z}
 use Rattle.std.specs.Int.{w64}
 use Rattle.wrp_sim.specs.Numbers.{drift_at, held_to, own_rate}
-use Rattle.wrp_scene.specs.Scenario.{free_of}
 use Rattle.wrp_sim.proofs.sim.state.State.moves.Goals as goal
 
 pub returns : goal.returns

@@ -1,4 +1,4 @@
-use Rattle.std.proofs.Common.{rules, FitsSigned, ◌∙◌, ap, ap₂, ℕ, ℤ, sym, subst, fold, IfSome, Some, to_z, of_z, arith}
+use Rattle.std.proofs.Common.{rules, FitsSigned, ◌∙◌, ap₂, ℤ, sym, subst, fold, arith}
 use Rattle.std.proofs.lemmas.Int.{ints, to_z-of_z}
 use Rattle.std.specs.Int.{w128}
 use Rattle.wrp_plant.proofs.SignedReads.{read}
