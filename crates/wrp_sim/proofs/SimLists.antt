@@ -2,13 +2,8 @@
 use Rattle.std.proofs.Common.{◌≡◌, ◌∙◌, refl, ap, sym, subst, ℕ, zero, suc, ◌+◌, ◌-◌, ◌<◌, ◌≤◌, ℤ, Bool, true, false, cond, List, [], ◌∷◌, ◌++◌, length, map, find, fold, replicate, take, drop, remove, slice_set, None, Some, option_map, nat_lt, slice_get, arith}
 use Rattle.std.proofs.Math.Seq.{take-suc-set}
 use Rattle.std.proofs.lemmas.Option.{none-some, same_Some}
-use Rattle.wrp_base.proofs.Lists.{append_assoc}
 use Rattle.wrp_plant.specs.Plant.{Each}
 use Rattle.wrp_course.specs.Setting.{from_on}
-
-nothing_more : {A : Type 0} (xs : List A) → xs ++ [] ≡ xs
-nothing_more [] = refl
-nothing_more (x ∷ xs) = ap (λ l. x ∷ l) (nothing_more xs)
 
 -- Places
 
@@ -76,17 +71,6 @@ map_more f first (suc i) =
     let k : (first + 1) + i ≡ first + suc i = omega arith in
     ap (λ n. map f (from_on n first)) e
     ∙ ap (λ l. f first ∷ l) (map_more f (first + 1) i ∙ ap (λ n. map f (from_on i (first + 1)) ++ (f n ∷ [])) k)
-
-pub map_left : {A : Type 0} (f : ℕ → A) (xs : List A) (count i : ℕ) → i < count →
-    xs ++ map f (from_on (count - i) i) ≡ (xs ++ (f i ∷ [])) ++ map f (from_on (count - (i + 1)) (i + 1))
-map_left f xs count i h =
-    let e : count - i ≡ suc (count - (i + 1)) = omega arith in
-    ap (λ k. xs ++ map f (from_on k i)) e ∙ sym (append_assoc xs (f i ∷ []) (map f (from_on (count - (i + 1)) (i + 1))))
-
-pub map_done : {A : Type 0} (f : ℕ → A) (xs : List A) (count i : ℕ) → count ≤ i → xs ++ map f (from_on (count - i) i) ≡ xs
-map_done f xs count i h =
-    let e : count - i ≡ 0 = omega arith in
-    ap (λ k. xs ++ map f (from_on k i)) e ∙ nothing_more xs
 
 pub fold_more : {A : Type 0} (g : A → ℕ → A) (best : A) (count i : ℕ) → i < count →
     fold g best (from_on (count - i) i) ≡ fold g (g best i) (from_on (count - (i + 1)) (i + 1))

@@ -1,5 +1,5 @@
 -- The numbers in the events of a simulator (this project's profile). Times are in tau, rates in 10^-12.
-use Rattle.std.specs.Prelude.{ℕ, ℤ, pos, neg_ℤ, ◌+◌, ◌-◌, ◌*◌, ◌/◌, ◌%◌, ◌^◌, ◌&&◌, ◌+ℤ◌, ◌-ℤ◌, ◌*ℤ◌, unsigned_abs, Bool, Option, None, Some}
+use Rattle.std.specs.Prelude.{ℕ, ℤ, pos, neg_ℤ, ◌+◌, ◌-◌, ◌*◌, ◌/◌, ◌%◌, ◌^◌, ◌≤◌, ◌≤ℤ◌, ◌&&◌, ◌+ℤ◌, ◌-ℤ◌, ◌*ℤ◌, unsigned_abs, Bool, Option, None, Some}
 use Rattle.std.specs.Int.Signed.{le_z, lt_z}
 use Rattle.wrp_base.specs.Clock.{period_of, step_of, steps_of_period}
 use Rattle.wrp_base.specs.declared.time.Clock.{Clock}
@@ -77,6 +77,11 @@ own_rate free dac bias = free -ℤ (pos 10 *ℤ (pos dac -ℤ bias))
 abbrev pub held_to : (kept : Option ℕ) → ℤ → ℤ
 held_to None rate = rate
 held_to (Some most) rate = held_within (pos most) rate
+
+-- the product of this time and of a rate that is no greater in size needs no more than 64 bits
+pub record IsSlow (dt most : ℤ) : Type 0 where
+  pub least : pos 0 ≤ℤ most
+  pub fits : unsigned_abs dt * unsigned_abs most ≤ 2 ^ 62
 
 -- how far a clock of this rate moves in a time
 abbrev pub drift_at : (dt rate : ℤ) → ℤ

@@ -9,7 +9,7 @@ use wrp_base::Tau;
 /// A time later than all others.
 const NEVER: Tau = 1 << 126;
 
-/// How many times a block has, and how many blocks there are.
+/// How many times a block has; there are as many blocks.
 const BLOCK: usize = 8;
 
 /// The first of some times.
@@ -155,7 +155,8 @@ fn firsts_from(times: &[Tau], since: Tau) -> [First; 8]
 fn soonest_of(firsts: &[First], since: Tau) -> Soonest
     requires { length firsts.now ≡ 8 }
     ensures since { result.since ≡ since }
-    ensures soonest { (ticks : List ℤ) → AreFirsts since ticks firsts.now → length ticks ≤ 64 → IsSoonest ticks result }
+    ensures soonest { (ticks : List ℤ) → AreFirsts since ticks firsts.now → length ticks ≤ 64
+        → IsSoonest ticks result }
 {
     let mut first = First {
         best: NEVER,

@@ -6,6 +6,7 @@ ghost use Rattle.wrp_base.specs.Clock.{period_of, steps_of_period};
 ghost use Rattle.wrp_base.specs.Held.{held_within};
 ghost use Rattle.wrp_phase.specs.BeatPattern as beat;
 ghost use Rattle.wrp_sim.specs.Numbers as number;
+ghost use Rattle.wrp_sim.specs.Numbers.{IsSlow};
 
 use wrp_base::{Clock, Raw, Tau, product, sum, trunc_div};
 
@@ -219,15 +220,54 @@ fn drift_far(dt: i64, rate: i64) -> i64
     trunc_div(product(i128::from(dt), i128::from(rate)), PARTS) as i64
 }
 
-/// How far a clock of this rate, in `10^-12`, moves in a time in tau: the product over `10^12`, in tau, rounded
-/// towards zero.
-pub fn drift_at(dt: i64, rate: i64) -> i64
+// How far a clock of this rate, in `10^-12`, moves in a time in tau: the product over `10^12`, in tau, rounded
+// towards zero.
+fn drift_at(dt: i64, rate: i64) -> i64
     requires { unsigned_abs rate ≤ 1_000_000_000 }
     ensures { result ≡ number.drift_at dt rate }
 {
     match dt.checked_mul(rate) {
         Some(scaled) => scaled / PARTS_64,
         None => drift_far(dt, rate),
+    }
+}
+
+/// A slow rate for a time in tau, in `10^-12`: the product of the time and of a rate that is no greater in size
+/// needs no more than 64 bits.
+pub fn slow_rate(dt: i64) -> i64
+    ensures { IsSlow dt result }
+{
+    ((1u64 << 62) / (dt.unsigned_abs() + 1)) as i64
+}
+
+// The product of a time and of a slow rate.
+fn slow_product(dt: i64, most: i64, rate: i64) -> i64
+    requires slow { IsSlow dt most }
+    requires rate { unsigned_abs rate ≤ unsigned_abs most }
+    ensures { result ≡ dt *ℤ rate }
+{
+    dt * rate
+}
+
+// As `drift_at`, at a slow rate.
+fn slow_drift(dt: i64, most: i64, rate: i64) -> i64
+    requires slow { IsSlow dt most }
+    requires rate { unsigned_abs rate ≤ unsigned_abs most }
+    ensures { result ≡ number.drift_at dt rate }
+{
+    slow_product(dt, most, rate) / PARTS_64
+}
+
+/// As `drift_at`, if it is known which rates are slow for the time: then fewer steps tell that 64 bits will do.
+pub fn drift_by(dt: i64, most: i64, rate: i64) -> i64
+    requires rate { unsigned_abs rate ≤ 1_000_000_000 }
+    requires slow { IsSlow dt most }
+    ensures { result ≡ number.drift_at dt rate }
+{
+    if -most <= rate && rate <= most {
+        slow_drift(dt, most, rate)
+    } else {
+        drift_at(dt, rate)
     }
 }
 

@@ -3,7 +3,7 @@ ghost use Rattle.std.specs.Prelude.{◌≡◌, ◌<◌, ◌≤◌, ◌++◌, ◌
 ghost use Rattle.std.specs.List.{AllByRecursion};
 ghost use Rattle.wrp_sim.specs.NextTick.{IsNext};
 ghost use Rattle.wrp_sim.specs.Numbers as number;
-ghost use Rattle.wrp_sim.specs.Numbers.{drift_at};
+ghost use Rattle.wrp_sim.specs.Numbers.{IsSlow, drift_at};
 ghost use Rattle.wrp_sim.specs.Rules as rule;
 ghost use Rattle.wrp_scene.specs.Scenario.{IsFree, free_of};
 ghost use Rattle.wrp_sim.specs.Sim.{FitsSim, Follows, HasDrifts, IsPassOf, SimIs, StaysFit, as_is, put};
@@ -12,7 +12,7 @@ ghost use Rattle.wrp_course.specs.Setting.{Setting, from_on, nodes_of};
 ghost use Rattle.wrp_world.specs.StandsFor.{IsValid, StandsFor, Tells};
 ghost use Rattle.wrp_course.specs.WorldAt.{WorldAt};
 
-use super::numbers::{drift_at, held_to, is_by, own_rate};
+use super::numbers::{drift_by, held_to, is_by, own_rate, slow_rate};
 use super::state::State;
 use arrayvec::ArrayVec;
 use wrp_base::{Tau, difference, narrow, sum};
@@ -313,9 +313,17 @@ impl State {
     }
 
     // How far the clock of a node with this steering moves in a time.
-    fn moves<F: Fn(i64) -> i64>(&self, world: &World<F>, dt: i64, n: u8, steering: Steer) -> i64
+    fn moves<F: Fn(i64) -> i64>(
+        &self,
+        world: &World<F>,
+        dt: i64,
+        most: i64,
+        n: u8,
+        steering: Steer,
+    ) -> i64
         requires valid { IsValid F.pre F.post world.now }
         requires fits { FitsSim world.now.plant.net.cfg self.now }
+        requires slow { IsSlow dt most }
         requires node { n < length world.now.nodes }
         requires kept { IfSome steering.kept (λ rate. rate ≤ 1_000_000_000) }
         ensures { Tells F.post (λ s w. drift_at dt (number.held_to steering.kept
@@ -324,7 +332,7 @@ impl State {
         let free = self.free(n);
         let own = own_rate(free, steering.dac, bias(world));
         let rate = held_to(steering.kept, own);
-        drift_at(dt, rate)
+        drift_by(dt, most, rate)
     }
 
     // The rate of a node's clock at rest.
@@ -338,14 +346,15 @@ impl State {
     }
 
     // How far a node's clock moves in a time.
-    fn drift<F: Fn(i64) -> i64>(&self, world: &World<F>, dt: i64, n: u8) -> i64
+    fn drift<F: Fn(i64) -> i64>(&self, world: &World<F>, dt: i64, most: i64, n: u8) -> i64
         requires valid { IsValid F.pre F.post world.now }
         requires fits { FitsSim world.now.plant.net.cfg self.now }
+        requires slow { IsSlow dt most }
         requires node { n < length world.now.nodes }
         ensures { Tells F.post (λ s w. rule.drift_over self.now.scene s w dt n) world.now result }
     {
         match world.steering(n) {
-            Some(steering) => self.moves(world, dt, n, steering),
+            Some(steering) => self.moves(world, dt, most, n, steering),
             None => 0,
         }
     }
@@ -356,10 +365,12 @@ impl State {
         requires fits { FitsSim world.now.plant.net.cfg self.now }
         requires places { length drifts.old ≡ length world.now.nodes }
         requires few { length drifts.old ≤ 64 }
-        ensures { Tells F.post (λ s w. map (rule.drift_over self.now.scene s w dt) (nodes_of s)) world.now drifts.new }
+        ensures { Tells F.post (λ s w. map (rule.drift_over self.now.scene s w dt) (nodes_of s))
+            world.now drifts.new }
     {
+        let most = slow_rate(dt);
         for n in 0..drifts.len() {
-            drifts[n] = self.drift(world, dt, as_number(n));
+            drifts[n] = self.drift(world, dt, most, as_number(n));
         }
     }
 

@@ -45,7 +45,8 @@ impl State {
     fn look_for_tick<F: Fn(i64) -> i64>(&self, world: &World<F>, start: u8) -> Option<u8>
         requires valid { IsValid F.pre F.post world.now }
         requires fits { FitsSim world.now.plant.net.cfg self.now }
-        requires earlier { (s : Setting) (w : WorldAt) → StandsFor F.post s w world.now → NoneBefore w.time self.now.tick_at start }
+        requires earlier { (s : Setting) (w : WorldAt) → StandsFor F.post s w world.now
+            → NoneBefore w.time self.now.tick_at start }
         ensures value { (s : Setting) (w : WorldAt) (at : SimAt) → StandsFor F.post s w world.now → SimIs at self.now
             → result ≡ find (rule.ticks_now w at) (nodes_of s) }
         ensures within { IfSome result (λ n. n < length world.now.nodes) }
@@ -59,8 +60,8 @@ impl State {
         None
     }
 
-    // The first node whose tick time is now: no node is asked if it is known that there is none, and no more than
-    // one if the first of the times is now and its node is up.
+    // The first node whose tick time is now: no node is asked if it is known that there is none, and only one if
+    // the first of the times is now and its node is up.
     fn first_tick<F: Fn(i64) -> i64>(&self, world: &World<F>) -> Option<u8>
         requires valid { IsValid F.pre F.post world.now }
         requires fits { FitsSim world.now.plant.net.cfg self.now }

@@ -6,13 +6,13 @@ use Rattle.wrp_sim.proofs.sim.state.State.moves.Goals as goal
 
 pub returns : goal.returns
 returns g c s w h =
-    let fits : FitsSigned w64 c.drift_at.result = search rules in
+    let fits : FitsSigned w64 c.drift_by.result = search rules in
     let free_fits : FitsSigned w64 c.free-free.result = search rules in
     let bias_fits : FitsSigned w64 c.bias.result = search rules in
     let own_fits : FitsSigned w64 c.own_rate-own.result = search rules in
     let held_fits : FitsSigned w64 c.held_to-rate.result = search rules in
-    to_z-of_z w64 c.drift_at.result fits
-    ∙ c.drift_at.ensures
+    to_z-of_z w64 c.drift_by.result fits
+    ∙ c.drift_by.ensures
     ∙ ap₂ drift_at (to_z-of_z w64 c.args.dt c.ranges.dt)
     (to_z-of_z w64 c.held_to-rate.result held_fits ∙ c.held_to-rate.ensures.value
     ∙ ap (held_to c.args.steering.kept)

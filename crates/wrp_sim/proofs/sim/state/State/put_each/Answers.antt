@@ -1,4 +1,4 @@
-use Rattle.std.proofs.Common.{rules, ◌≡◌, ◌∙◌, refl, ap, sym, ℕ, ℤ, ◌<◌, ◌≤◌, length, map, take_all, to_z, of_z, FitsSigned, arith}
+use Rattle.std.proofs.Common.{rules, ◌≡◌, ◌∙◌, refl, ap, sym, ℕ, ℤ, ◌≤◌, length, map, take_all, to_z, of_z, FitsSigned, arith}
 use Rattle.std.proofs.lemmas.Int.{to_z-of_z}
 use Rattle.std.specs.Int.{w64}
 use Rattle.wrp_course.specs.Setting.{from_on, nodes_of}
