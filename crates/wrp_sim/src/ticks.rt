@@ -248,23 +248,45 @@ impl Ticks {
         requires { n < length self.old }
         ensures { self.new ≡ slice_set self.old n time }
     {
-        let place = usize::from(n);
-        let count = self.times.len();
-        self.times[place] = time;
-        if !has_blocks(count) {
-            self.soonest = soonest_from(self.times.as_slice(), now);
-            return;
-        }
-        let since = later_of(self.soonest.since, now);
-        if self.soonest.first.best < since {
-            // A node that is down left a time that is over.
-            self.firsts = firsts_from(self.times.as_slice(), since);
-            self.soonest = soonest_of(&self.firsts, since);
+        if has_blocks(self.times.len()) {
+            self.leave_past(now);
+            self.set_in_block(usize::from(n), time, now);
         } else {
-            let block = place / BLOCK;
-            self.firsts[block] = first_of_block(self.times.as_slice(), since, block);
-            self.soonest = soonest_of(&self.firsts, since);
+            self.times[usize::from(n)] = time;
+            self.soonest = soonest_from(self.times.as_slice(), now);
         }
+    }
+
+    // The same if there are blocks: one of them is searched.
+    fn set_in_block(&mut self, n: usize, time: Tau, now: Tau)
+        requires place { n < length self.old }
+        requires blocks { HasBlocks (length self.old) }
+        ensures { self.new ≡ slice_set self.old n time }
+    {
+        let since = later_of(self.soonest.since, now);
+        let block = n / BLOCK;
+        self.times[n] = time;
+        self.firsts[block] = first_of_block(self.times.as_slice(), since, block);
+        self.soonest = soonest_of(&self.firsts, since);
+    }
+
+    // All blocks are searched again if the first time is over: a node that is down left it.
+    fn leave_past(&mut self, now: Tau)
+        ensures { self.new ≡ self.old }
+    {
+        if self.soonest.first.best < now {
+            self.search_all(now);
+        }
+    }
+
+    // All blocks are searched again. What is before `now` is over.
+    #[cold]
+    #[inline(never)]
+    fn search_all(&mut self, now: Tau)
+        ensures { self.new ≡ self.old }
+    {
+        self.firsts = firsts_from(self.times.as_slice(), now);
+        self.soonest = soonest_from(self.times.as_slice(), now);
     }
 
     /// Whether it is known that no time is now.
