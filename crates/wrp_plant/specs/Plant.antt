@@ -6,7 +6,7 @@ use Rattle.wrp_base.specs.declared.link.Role.{Role}
 use Rattle.wrp_base.specs.declared.link.Role.TheVariants.{Master, Slave}
 use Rattle.wrp_bounds.specs.Times.{frame_life}
 use Rattle.wrp_config.specs.Accepted.{IsAccepted}
-use Rattle.wrp_network.specs.Network.{link_above}
+use Rattle.wrp_network.specs.Network.{IsGrandmaster}
 use Rattle.wrp_flights.specs.declared.departed.Departed.{Departed}
 use Rattle.wrp_flights.specs.declared.departed.Reception.{Reception}
 use Rattle.wrp_flights.specs.Frames.{FramesAt, at, sent_at}
@@ -155,7 +155,7 @@ pub record FitsFrames (links events : ℕ) (frames : FramesAt) : Type 0 where
   pub each : (i : ℕ) (d : Departed) → at i frames.kept ≡ Some d → FitsDeparted links events d
 
 -- an accepted network, a clock for each node, a state for each link, numbers in their ranges, room at each end for the
--- spare steps, no waiting frame that was put out after the last put time, and a node with no link above it
+-- spare steps, no waiting frame that was put out after the last put time, and the grandmaster
 pub record FitsPlant (plant : Plant) : Type 0 where
   pub accepted : IsAccepted plant.net.cfg plant.net.db
   pub clock_count : length plant.clocks.items ≡ length plant.net.cfg.nodes.items
@@ -168,4 +168,4 @@ pub record FitsPlant (plant : Plant) : Type 0 where
   pub room : Each (λ k. HasSpanRoom plant.spare) plant.spans.items
   pub puts : Each (λ k. SpanPutBy plant.last_put) plant.spans.items
   pub put : plant.last_put ≤ℤ plant.time
-  pub top : link_above plant.net.cfg plant.top ≡ None
+  pub top : IsGrandmaster plant.net.cfg plant.top

@@ -1,7 +1,7 @@
 //! Which node is the grandmaster, and which node's link above is at the node's own place.
-ghost use Rattle.std.specs.Prelude.{◌≡◌, ◌==◌, ◌≤◌, ◌-◌, not, true, false, None, slice_get};
+ghost use Rattle.std.specs.Prelude.{◌≡◌, ◌==◌, ◌≤◌, ◌-◌, not, nat_le, true, false, length, slice_get};
 ghost use Rattle.std.specs.Option.{is_some, option_map_or};
-ghost use Rattle.wrp_network.specs.Network.{IsTree, link_above as link_over};
+ghost use Rattle.wrp_network.specs.Network.{IsGrandmaster, IsTree, link_above as link_over};
 ghost use Rattle.wrp_plant.specs.Plant.{FitsPlant, PlantIs};
 ghost use Rattle.wrp_course.specs.Setting.{Setting};
 ghost use Rattle.wrp_course.specs.WorldAt.{WorldAt};
@@ -44,7 +44,7 @@ fn has_none_above(cfg: &NetCfg, n: u8) -> bool
 /// The grandmaster of a network: the node that no link stands above.
 pub fn top_of(cfg: &NetCfg) -> u8
     requires { IsTree cfg.now }
-    ensures { link_over cfg.now result ≡ None }
+    ensures { IsGrandmaster cfg.now result }
 {
     let count = cfg.nodes.len() as u8;
     for n in 0..count {
@@ -56,21 +56,20 @@ pub fn top_of(cfg: &NetCfg) -> u8
 }
 
 impl Plant {
-    /// Whether no link is above a node: then it is the grandmaster. The links are searched only for a node that
-    /// is not the grandmaster and has no link at its own place.
+    // Whether no node has this number.
+    fn is_past(&self, n: u8) -> bool
+        ensures { result ≡ nat_le (length self.now.net.cfg.nodes.items) n }
+    {
+        self.net.cfg.nodes.len() <= usize::from(n)
+    }
+
+    /// Whether no link is above a node: then it is the grandmaster. The grandmaster's number is known, so no link is
+    /// looked at. Of a number that no node has the answer is true.
     pub fn is_top(&self, n: u8) -> bool
         requires { FitsPlant self.now }
         ensures { (s : Setting) (w : WorldAt) → PlantIs s w self.now
             → result ≡ not (is_some (link_over s.cfg n)) }
     {
-        if n == self.top {
-            return true;
-        }
-        let cfg = self.cfg();
-        if has_own_link(cfg, n) {
-            false
-        } else {
-            has_none_above(cfg, n)
-        }
+        if n == self.top { true } else { self.is_past(n) }
     }
 }

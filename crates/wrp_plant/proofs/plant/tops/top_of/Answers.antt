@@ -9,7 +9,7 @@ pub loop-n-preserved : goal.loop-n-preserved
 loop-n-preserved c = below_more _ _ c.loop-n.invariant (some_there _ (sym c.has_none_above.ensures ∙ c.if-has_none_above.false))
 
 pub returns-then-has_none_above : goal.returns-then-has_none_above
-returns-then-has_none_above c = none_there _ (sym c.has_none_above.ensures ∙ c.if-has_none_above.true)
+returns-then-has_none_above c = (omega arith, none_there _ (sym c.has_none_above.ensures ∙ c.if-has_none_above.true))
 
 pub unreachable-requires : goal.unreachable-requires
 unreachable-requires c = top_there c.args.cfg.now c.requires (λ m h. c.loop-n.invariant m (omega (arith, h)))
