@@ -11,6 +11,7 @@ pub mod SwapLemmas
 pub mod PassLemmas
 pub mod FurtherLemmas
 pub mod SignedLemmas
+mod SmallNumbers
 pub mod NamesFound
 pub mod EventParts
 pub mod PassReadsBack

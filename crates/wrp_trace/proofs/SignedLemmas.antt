@@ -1,5 +1,5 @@
 -- Signed numbers that were printed read back.
-use Rattle.std.proofs.Common.{◌≡◌, ℕ, ℤ, pos, negsuc, neg_ℤ, suc, ◌<◌, ◌-◌, ◌^◌, ◌≤ℤ◌, true, Some, length, refl, ap, arith, lit<}
+use Rattle.std.proofs.Common.{◌≡◌, ℕ, ℤ, pos, negsuc, neg_ℤ, suc, ◌<◌, ◌^◌, ◌≤ℤ◌, true, Some, length, refl, ap, arith, lit<}
 use Rattle.std.specs.Prelude.{int_le, unsigned_abs, option_map}
 use Rattle.std.specs.Fmt.{decimal, signed_decimal}
 use Rattle.std.proofs.lemmas.Bool.{le-leb}

@@ -1,22 +1,32 @@
 //! The numbers of the further fields of a `pass`.
-ghost use Rattle.std.specs.Prelude.{◌≡◌, ◌<◌, ◌+◌, IfSome};
+ghost use Rattle.std.specs.Prelude.{◌≡◌, ◌<◌, ◌+◌, IfSome, option_map, pos};
+ghost use Rattle.wrp_fields.specs.Numbers.{unsigned_in};
 ghost use Rattle.wrp_trace.specs.Changes.{change_in, move_in};
 ghost use Rattle.wrp_course.specs.EventAt.{IsChange, IsMove};
 
 use super::names::parts_at;
-use wrp_fields::number;
+use wrp_fields::unsigned;
 
 // The greatest change, in tau: 2^63 - 1.
-const MOST_CHANGE: i128 = (1 << 63) - 1;
+const MOST_CHANGE: u64 = (1 << 63) - 1;
+
+// How much a change is, in tau: 0 to 2^63 - 1. None if the text is not such a number, without a sign.
+fn size_in(digits: &[u8]) -> Option<i64>
+    ensures value { result ≡ option_map pos (unsigned_in 0 9_223_372_036_854_775_807 digits.now) }
+    ensures range { IfSome result IsChange }
+{
+    let size = unsigned(digits, 0, MOST_CHANGE)?;
+    Some(size as i64)
+}
 
 /// A change, in tau: within 2^63 - 1. None if the text is not such a number.
 pub fn change_in(text: &[u8]) -> Option<i64>
     ensures value { result ≡ change_in text.now }
     ensures range { IfSome result IsChange }
 {
-    match number(text, -MOST_CHANGE, MOST_CHANGE) {
-        Some(change) => Some(change as i64),
-        None => None,
+    match text {
+        [b'-', digits @ ..] => Some(-size_in(digits)?),
+        digits => size_in(digits),
     }
 }
 
