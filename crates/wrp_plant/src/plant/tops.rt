@@ -34,14 +34,14 @@ pub fn has_own_link(cfg: &NetCfg, n: u8) -> bool
     is_above(cfg, usize::from(n) - 1, n)
 }
 
-// Whether no link stands above a node. All links are searched.
+// Whether no link is above a node. All links are searched.
 fn has_none_above(cfg: &NetCfg, n: u8) -> bool
     ensures { result ≡ not (is_some (link_over cfg.now n)) }
 {
     link_above(cfg, n).is_none()
 }
 
-/// The grandmaster of a network: the node that no link stands above.
+/// The grandmaster of a network: the node with no link above it.
 pub fn top_of(cfg: &NetCfg) -> u8
     requires { IsTree cfg.now }
     ensures { IsGrandmaster cfg.now result }
@@ -64,7 +64,7 @@ impl Plant {
     }
 
     /// Whether no link is above a node: then it is the grandmaster. The grandmaster's number is known, so no link is
-    /// looked at. Of a number that no node has the answer is true.
+    /// looked at. For a number that no node has, the answer is true.
     pub fn is_top(&self, n: u8) -> bool
         requires { FitsPlant self.now }
         ensures { (s : Setting) (w : WorldAt) → PlantIs s w self.now
