@@ -18,7 +18,7 @@ still_next moves i h e k l = by_case (split k i (omega (arith, l))) where
   by_case (inl same) = subst (Stays moves) (sym same) e
   by_case (inr below) = h k below
 
--- the move that stands at this place is none
+-- the move at this place is 0 both ways
 pub still_here : (moves : List (ℤ × ℤ)) (k : ℕ) (d : ℤ × ℤ) → k < length moves → slice_index_or moves k d ≡ (pos 0, pos 0) → Stays moves k
 still_here moves k d h e = ap (λ o. option_map_or (λ move. move) o (pos 0, pos 0)) (slice_get-get_or moves k d h) ∙ e
 

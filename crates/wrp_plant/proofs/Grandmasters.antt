@@ -1,4 +1,4 @@
--- A tree has one node that no link stands above.
+-- A tree has one node with no link above it.
 use Rattle.std.proofs.Common.{◌≡◌, ◌∙◌, refl, ap, sym, subst, ℕ, zero, suc, ◌<◌, ◌≤◌, ◌⊎◌, inl, inr, Bool, true, false, List, [], ◌∷◌, Option, None, Some, not, nat_le, find, true≢false, arith}
 use Rattle.std.proofs.lemmas.Bool.{cases_lt, eqb-true}
 use Rattle.std.proofs.lemmas.Option.{none-some, same_Some}
@@ -17,7 +17,7 @@ pub none_there : {A : Type 0} (o : Option A) → not (is_some o) ≡ true → o 
 none_there None e = refl
 none_there (Some x) e = absurd (true≢false (sym e))
 
--- from each node the links lead upwards, to one that no link stands above
+-- from each node the links lead upwards, to one with no link above it
 leads_up : (cfg : NetCfg) (depth n : ℕ) → IsTree cfg → n < node_count cfg → HasDepth cfg depth n → (m : ℕ) × (m < node_count cfg) × (link_above cfg m ≡ None)
 leads_up cfg zero n tree within top = (n, within, top)
 leads_up cfg (suc depth) n tree within up =

@@ -33,6 +33,6 @@ pub struct Plant {
     pub spare: u8,
     /// No waiting frame was put out later than this, in tau.
     pub last_put: Tau,
-    /// The grandmaster: no link stands above it.
+    /// The grandmaster, the node with no link above it.
     pub top: u8,
 }

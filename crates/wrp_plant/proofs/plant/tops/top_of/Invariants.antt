@@ -1,4 +1,4 @@
--- Above each of the nodes so far a link stands.
+-- Each of the nodes so far has a link above it.
 use Rattle.std.proofs.Common.{◌≡◌, ℕ, ◌<◌, true}
 use Rattle.std.specs.Option.{is_some}
 use Rattle.wrp_network.specs.Network.{link_above}
