@@ -1,5 +1,6 @@
 //! Which premise a time breaks that passes: the rates of clocks are asked of the nodes.
-ghost use Rattle.std.specs.Prelude.{◌≡◌, ◌<◌, ◌≤◌, length, flat_map, not, if◌then◌else◌, IfSome, None, Some, Result};
+ghost use Rattle.std.specs.Prelude.{◌≡◌, ◌<◌, ◌≤◌, ℕ, ℤ, pos, true, length, flat_map, not, if◌then◌else◌, IfSome, None, Some, Result};
+ghost use Rattle.arrayvec.specs.ArrayVec.{ArrayVec as Items};
 ghost use Rattle.std.specs.Option.{is_some};
 ghost use Rattle.wrp_base.specs.declared.message.PtpMsg.{PtpMsg};
 ghost use Rattle.wrp_network.specs.Network.{link_above};
@@ -8,9 +9,9 @@ ghost use Rattle.wrp_frame.specs.declared.fault.FrameFault.{FrameFault};
 ghost use Rattle.wrp_course.specs.Checks.{told_of};
 ghost use Rattle.wrp_course.specs.declared.event.Event.TheVariants as event;
 ghost use Rattle.wrp_course.specs.EventAt.{IsPass};
-ghost use Rattle.wrp_course.specs.Moved.{drift_of};
+ghost use Rattle.wrp_course.specs.Moved.{drift_of, move_of, moved};
 ghost use Rattle.wrp_course.specs.Premises as premise;
-ghost use Rattle.wrp_course.specs.Setting.{Setting, nodes_of};
+ghost use Rattle.wrp_course.specs.Setting.{Setting, links_of, nodes_of};
 ghost use Rattle.wrp_world.specs.StandsFor.{IsValid, StandsFor, Tells, up_of};
 ghost use Rattle.wrp_world.specs.Steered.{steering_of};
 ghost use Rattle.wrp_premises.specs.Tried.{steered_rate};
@@ -59,6 +60,28 @@ fn drift_at(drifts: &[i64], n: u8) -> i64
         Some(drift) => *drift,
         None => 0,
     }
+}
+
+// Whether the delays of a fibre move neither down nor up.
+fn stays_at(moves: &[(i64, i64)], k: usize) -> bool
+    ensures { result ≡ true → move_of moves.now k ≡ (pos 0, pos 0) }
+{
+    match moves.get(k) {
+        Some(by) => by.0 == 0 && by.1 == 0,
+        None => true,
+    }
+}
+
+// Whether no fibre moves.
+fn all_stay(moves: &[(i64, i64)]) -> bool
+    ensures { result ≡ true → (k : ℕ) → move_of moves.now k ≡ (pos 0, pos 0) }
+{
+    for k in 0..moves.len() {
+        if !stays_at(moves, k) {
+            return false;
+        }
+    }
+    true
 }
 
 impl<F: Fn(i64) -> i64> World<F> {
@@ -180,6 +203,23 @@ impl<F: Fn(i64) -> i64> World<F> {
         if let Some(breach) = rates_of_fibres_broken(&self.plant, dt, moves) {
             return Some(breach);
         }
-        moved_fibres_broken(&self.plant, moves)
+        self.fibres_broken(moves)
+    }
+
+    // The delays of all links after a time in which they move this far. While none moves they are kept, since they
+    // were kept before: no link is looked at.
+    fn fibres_broken(&self, moves: &ArrayVec<(i64, i64), 63>) -> Option<Breach>
+        requires { IsValid F.pre F.post self.now }
+        ensures { (s : Setting) (w : WorldAt) (dt : ℤ) (drifts : Items ℤ)
+            → StandsFor F.post s w self.now → result ≡ told_of
+            (flat_map (premise.fibre_kept s (moved s w (event.Pass dt drifts moves.now)))
+            (links_of s)) }
+    {
+        let plant = &self.plant;
+        if all_stay(moves.as_slice()) {
+            None
+        } else {
+            moved_fibres_broken(plant, moves)
+        }
     }
 }
