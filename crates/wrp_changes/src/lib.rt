@@ -11,4 +11,5 @@ mod telling;
 
 pub use beginning::begin;
 pub use giving::put_out_at;
+pub use moves::spans::all_stay;
 pub use telling::{News, told};

@@ -3,6 +3,7 @@ pub mod Breaches
 pub mod FirstNodes
 pub mod InRuns
 pub mod Inside
+pub mod KeptFibres
 pub mod Movers
 pub mod NearLaws
 pub mod NewWorlds

@@ -33,11 +33,13 @@ use Rattle.wrp_course.specs.Given.{Given, NodeStepAt, gives, mover_of, node_step
 use Rattle.wrp_plant.specs.Plant.{Each, FitsPlant, PlantIs}
 use Rattle.wrp_changes.specs.PlantTold.{IsStepOf, MayStep, SendsFew}
 use Rattle.wrp_course.specs.Setting.{Setting, node_setting_of}
+use Rattle.wrp_world.specs.KeepsFibres.{KeepsFibres}
 use Rattle.wrp_world.specs.StandsFor.{IsValid, NodeIs, StandsFor, WorldOf}
 use Rattle.wrp_world.specs.Step.{step_seen}
 use Rattle.wrp_world.specs.Taking.{Asks, Gave, IsNewsOf, laws_of}
 use Rattle.wrp_course.specs.WorldAt.{WorldAt}
 use Rattle.wrp_world.proofs.Inside.{world_of}
+use Rattle.wrp_world.proofs.KeptFibres.{given_keeps}
 use Rattle.wrp_world.proofs.NodeSteps.{NodeStepped, SteppedAt, is_step_of, may_step, node_stepped, read_is_said, said_is_read, sends_few, ticks_told, took}
 use Rattle.wrp_changes.proofs.Turned.{length_put, put_else, put_here}
 use Rattle.wrp_course.proofs.LinkPorts.{other_number}
@@ -229,6 +231,17 @@ valid_next {F} pre post put old before after node fresh news new h k a =
           stands_next pre post put old before after node fresh news new h t.valid.setting t.valid.state g t.took.1 t.valid.stands
           (own_is pre post put old before after.outs.items node fresh news t) (λ e. refl);
     }
+
+-- the fibres of the links, which no step moves
+
+pub fibres_next : {F : Type 0} (pre : F → ℤ → Type 0) (post : F → ℤ → ℤ → Type 0) (put : ℤ) (old : WorldOf F) (before after : NodeOut) (node fresh : NodeOf F) (news : News) (new : WorldOf F) →
+    ToldOne pre post put old before after node fresh news new → FitsPlant new.plant → KeepsFibres old.plant → KeepsFibres new.plant
+fibres_next {F} pre post put old before after node fresh news new h fits kept =
+    let t = h.took in
+    let g : Given = own_gift pre post put old before after.outs.items node fresh news t in
+    given_keeps old.plant new.plant t.valid.setting t.valid.state t.took.1 g kept t.valid.stands.plant fits.span_count
+    (stands_next pre post put old before after node fresh news new h t.valid.setting t.valid.state g t.took.1 t.valid.stands
+    (own_is pre post put old before after.outs.items node fresh news t) (λ e. refl)).plant
 
 -- the laws of the nodes
 

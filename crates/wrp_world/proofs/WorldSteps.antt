@@ -190,7 +190,7 @@ arrives_on s w i raw true o h = refl
 arrives_on s w i raw false o h = absurd (true≢false h.0)
 
 -- an accepted event may move the frames
-may_move : (s : Setting) (w : WorldAt) (says : Result PtpMsg FrameFault) (e : Event) → Accepts s w says e → MayMove w e
+pub may_move : (s : Setting) (w : WorldAt) (says : Result PtpMsg FrameFault) (e : Event) → Accepts s w says e → MayMove w e
 may_move s w says (Pass dt drifts fibres) h = tt
 may_move s w says (Tick n) h = tt
 may_move s w says (Sample n base bits) h = tt

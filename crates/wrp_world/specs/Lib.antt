@@ -2,6 +2,7 @@ pub mod EventHolds
 pub mod HasLaws
 pub mod InRun
 pub mod InTrueRun
+pub mod KeepsFibres
 pub mod New
 pub mod RunsOn
 pub mod StandsFor

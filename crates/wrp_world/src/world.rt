@@ -25,9 +25,12 @@ pub struct World<F> {
 }
 
 impl<F> Model for World<F> {
+    ghost use Rattle.wrp_world.specs.KeepsFibres.{KeepsFibres};
     ghost use Rattle.wrp_world.specs.StandsFor.{WorldOf};
 
     ghost Value = { WorldOf F };
 
     ghost view = { λ w. record { plant = w.plant; nodes = w.nodes.items } };
+
+    ghost invariant = { λ w. KeepsFibres w.plant };
 }

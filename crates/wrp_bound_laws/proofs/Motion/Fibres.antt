@@ -44,7 +44,7 @@ up_same w v k f m t =
     ∙ ap (λ (x : FibreState). (pos (w.end_at k Slave).tx +ℤ x.sm) +ℤ pos (v.end_at k Master).rx) f
     ∙ ap (λ x. (pos (w.end_at k Slave).tx +ℤ (w.fibre k).sm) +ℤ pos x) m.rx
 
-same_kept : (s : Setting) (w v : WorldAt) (k : ℕ) → v.fibre k ≡ w.fibre k → SameModule (w.end_at k Master) (v.end_at k Master) → SameModule (w.end_at k Slave) (v.end_at k Slave) → AllHold (fibre_kept s w k) → AllHold (fibre_kept s v k)
+pub same_kept : (s : Setting) (w v : WorldAt) (k : ℕ) → v.fibre k ≡ w.fibre k → SameModule (w.end_at k Master) (v.end_at k Master) → SameModule (w.end_at k Slave) (v.end_at k Slave) → AllHold (fibre_kept s w k) → AllHold (fibre_kept s v k)
 same_kept s w v k f m t h =
     subst (λ d. AllHold (kept_with s k (v.fibre k) d (delay_from v k Slave))) (sym (down_same w v k f m t))
     (subst (λ u. AllHold (kept_with s k (v.fibre k) (delay_from w k Master) u)) (sym (up_same w v k f m t))
@@ -56,7 +56,7 @@ given_fibre : (s : Setting) (y : ℤ) (gs : List Given) (v : WorldAt) (k : ℕ) 
 given_fibre s y [] v k = refl
 given_fibre s y (g ∷ gs) v k = given_fibre s y gs (gives s y v g) k
 
-given_kept : (s : Setting) (y : ℤ) (gs : List Given) (v : WorldAt) (k : ℕ) → AllHold (fibre_kept s v k) → AllHold (fibre_kept s (gives_all s y v gs) k)
+pub given_kept : (s : Setting) (y : ℤ) (gs : List Given) (v : WorldAt) (k : ℕ) → AllHold (fibre_kept s v k) → AllHold (fibre_kept s (gives_all s y v gs) k)
 given_kept s y gs v k h = same_kept s v (gives_all s y v gs) k (given_fibre s y gs v k) (all_given_module s y gs v k Master) (all_given_module s y gs v k Slave) h
 
 -- Events
@@ -65,7 +65,7 @@ module_where : (b : Bool) (e : EndAt) (waiting : List Sending) → SameModule e 
 module_where true e waiting = record { name = refl; tx = refl; rx = refl }
 module_where false e waiting = record { name = refl; tx = refl; rx = refl }
 
-none_checked : (cs : List Check) → AllHold (map (only_where false) cs)
+pub none_checked : (cs : List Check) → AllHold (map (only_where false) cs)
 none_checked [] = tt
 none_checked (c ∷ cs) = (refl, none_checked cs)
 
@@ -83,7 +83,7 @@ still_kept : (s : Setting) (w : WorldAt) (e : Event) (k : ℕ) → (moved s w e)
     AllHold (fibre_kept s (moved s w e) k)
 still_kept s w e k f m t h = same_kept s w (moved s w e) k f m t h
 
-moved_kept : (s : Setting) (w : WorldAt) (says : Result PtpMsg FrameFault) (e : Event) (k : ℕ) (link : LinkCfg) → link_of s k ≡ Some link → Accepts s w says e → AllHold (fibre_kept s w k) → AllHold (fibre_kept s (moved s w e) k)
+pub moved_kept : (s : Setting) (w : WorldAt) (says : Result PtpMsg FrameFault) (e : Event) (k : ℕ) (link : LinkCfg) → link_of s k ≡ Some link → Accepts s w says e → AllHold (fibre_kept s w k) → AllHold (fibre_kept s (moved s w e) k)
 moved_kept s w says (Pass dt drifts fibres) k link is a h =
     let v : WorldAt = moved s w (Pass dt drifts fibres) in
     flat_from (fibre_kept s v) (length s.cfg.links.items) k (pass_part s w v dt drifts.items fibres.items a) (is_there s k link is)

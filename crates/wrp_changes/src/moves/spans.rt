@@ -54,8 +54,9 @@ fn gathered(bits: (i64, i64), by: &(i64, i64)) -> (i64, i64)
     (bits.0 | by.0, bits.1 | by.1)
 }
 
-// Whether no fibre changes. The bits of all moves are gathered, and only they are tested.
-fn all_stay(moves: &[(i64, i64)]) -> bool
+/// Whether no fibre changes: the delays of all move by 0. The bits of all moves are gathered, and only they are
+/// tested.
+pub fn all_stay(moves: &[(i64, i64)]) -> bool
     ensures { result ≡ true → (k : ℕ) → move_of moves.now k ≡ (pos 0, pos 0) }
 {
     let mut bits = (0, 0);

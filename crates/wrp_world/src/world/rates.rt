@@ -1,5 +1,6 @@
 //! Which premise breaks if time passes: the rates of clocks depend on the nodes.
-ghost use Rattle.std.specs.Prelude.{◌≡◌, ◌<◌, ◌≤◌, length, flat_map, not, if◌then◌else◌, IfSome, None, Some, Result};
+ghost use Rattle.std.specs.Prelude.{◌≡◌, ◌<◌, ◌≤◌, ℤ, length, flat_map, not, if◌then◌else◌, IfSome, None, Some, Result};
+ghost use Rattle.arrayvec.specs.ArrayVec.{ArrayVec as Items};
 ghost use Rattle.std.specs.Option.{is_some};
 ghost use Rattle.wrp_base.specs.declared.message.PtpMsg.{PtpMsg};
 ghost use Rattle.wrp_network.specs.Network.{link_above};
@@ -8,9 +9,9 @@ ghost use Rattle.wrp_frame.specs.declared.fault.FrameFault.{FrameFault};
 ghost use Rattle.wrp_course.specs.Checks.{told_of};
 ghost use Rattle.wrp_course.specs.declared.event.Event.TheVariants as event;
 ghost use Rattle.wrp_course.specs.EventAt.{IsPass};
-ghost use Rattle.wrp_course.specs.Moved.{drift_of};
+ghost use Rattle.wrp_course.specs.Moved.{drift_of, moved};
 ghost use Rattle.wrp_course.specs.Premises as premise;
-ghost use Rattle.wrp_course.specs.Setting.{Setting, nodes_of};
+ghost use Rattle.wrp_course.specs.Setting.{Setting, links_of, nodes_of};
 ghost use Rattle.wrp_world.specs.StandsFor.{IsValid, StandsFor, Tells, up_of};
 ghost use Rattle.wrp_world.specs.Steered.{steering_of};
 ghost use Rattle.wrp_premises.specs.Tried.{steered_rate};
@@ -20,6 +21,7 @@ use super::World;
 use crate::Steer;
 use arrayvec::ArrayVec;
 use wrp_base::ServoState;
+use wrp_changes::all_stay;
 use wrp_course::Breach;
 use wrp_network::NodeCfg;
 use wrp_premises::{late_broken, moved_fibres_broken, rate_kept, rates_of_fibres_broken};
@@ -182,6 +184,23 @@ impl<F: Fn(i64) -> i64> World<F> {
         if let Some(breach) = rates_of_fibres_broken(&self.plant, dt, moves) {
             return Some(breach);
         }
-        moved_fibres_broken(&self.plant, moves)
+        self.fibres_broken(moves)
+    }
+
+    // Checks the delays of all links after a time in which they change so. If none changes, no link is looked at: all
+    // of them kept their premise before.
+    fn fibres_broken(&self, moves: &ArrayVec<(i64, i64), 63>) -> Option<Breach>
+        requires { IsValid F.pre F.post self.now }
+        ensures { (s : Setting) (w : WorldAt) (dt : ℤ) (drifts : Items ℤ)
+            → StandsFor F.post s w self.now → result ≡ told_of
+            (flat_map (premise.fibre_kept s (moved s w (event.Pass dt drifts moves.now)))
+            (links_of s)) }
+    {
+        let plant = &self.plant;
+        if all_stay(moves.as_slice()) {
+            None
+        } else {
+            moved_fibres_broken(plant, moves)
+        }
     }
 }

@@ -2,8 +2,9 @@
 use Rattle.std.proofs.Common.{◌∙◌, ap, sym, subst, slice_set, ◌+◌}
 use Rattle.wrp_changes.specs.PlantTold.{MayStep, SendsFew}
 use Rattle.wrp_changes.specs.Room.{HasRoom}
+use Rattle.wrp_world.specs.KeepsFibres.{KeepsFibres}
 use Rattle.wrp_world.proofs.Inside.{world_of}
-use Rattle.wrp_world.proofs.NodesTake.{few_sent, fits_input, gave_one, laws_next, news_by_parts, news_read, node_here, steps_once, told_one, took_one, valid_next}
+use Rattle.wrp_world.proofs.NodesTake.{few_sent, fibres_next, fits_input, gave_one, laws_next, news_by_parts, news_read, node_here, steps_once, told_one, took_one, valid_next}
 use Rattle.wrp_world.proofs.world.World.give_one.Goals as goal
 
 pub step_node-requires-clause-valid : goal.step_node-requires-clause-valid
@@ -79,3 +80,15 @@ returns-clause-laws g c =
     took c.self.view_is c.from.ensures c.step_node.ensures.node c.step_node.ensures.input c.as_slice.ensures.value c.told.ensures.is in
     laws_next c.args.self.now (world_of c.told.new.plant (slice_set c.self.inside.nodes.items c.from.result c.step_node.new.node)) c.args.out.now.node c.index_mut-node.result.now c.step_node.new.node
     took.node_at told.nodes c.step_node.ensures.law
+
+pub invariant_of-self : goal.invariant_of-self
+invariant_of-self g c =
+    let took = took_one _ _ c.args.put c.args.self.now c.self.inside.plant c.self.inside.nodes.items c.args.out.now c.step_node.new.out.outs.items c.from.result c.index_mut-node.result.now c.step_node.new.node c.news_of-news.result
+    c.self.view_is c.requires.valid c.requires.gift c.from.ensures c.index_mut-node.ensures.value c.step_node.ensures.took (news_read _ c.args.put _ _ _ _ (record { sfits = c.ranges.put.sfits })
+    (news_by_parts _ _ _ _ c.args.out.now c.step_node.new.out c.news_of-news.result _ _ c.step_node.ensures.node c.step_node.ensures.input c.news_of-news.ensures.node c.news_of-news.ensures.ticked c.news_of-news.ensures.by
+    (ap (λ v. v.items) c.news_of-news.ensures.before) (ap (λ v. v.items) c.news_of-news.ensures.after) c.states-before.ensures.states c.states-after.ensures.states)) in
+    let told = told_one _ _ c.args.put c.args.self.now c.args.out.now c.step_node.new.out c.index_mut-node.result.now c.step_node.new.node c.news_of-news.result c.self.inside.plant c.told.new.plant c.self.inside.nodes.items c.from.result c.as_slice.result.now
+    took c.self.view_is c.from.ensures c.step_node.ensures.node c.step_node.ensures.input c.as_slice.ensures.value c.told.ensures.is in
+    fibres_next _ _ c.args.put c.args.self.now c.args.out.now c.step_node.new.out c.index_mut-node.result.now c.step_node.new.node c.news_of-news.result
+    (world_of c.told.new.plant (slice_set c.self.inside.nodes.items c.from.result c.step_node.new.node)) told c.told.ensures.fits
+    (subst (λ w. KeepsFibres w.plant) c.self.view_is c.self.invariant)

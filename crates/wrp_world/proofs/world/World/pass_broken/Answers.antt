@@ -37,4 +37,4 @@ returns g c s w says h =
     told_later (map (tick_late s w c.args.dt) (nodes_of s)) _ _ (sym c.in_default.is ∙ c.late_broken.ensures s w p ∙ ap (λ t. told_of (map (tick_late s w t) (nodes_of s))) dt)
     (told_later (flat_map (rate_kept s w c.args.dt c.args.drifts.now.items) (nodes_of s)) _ _ (sym c.in_default-rates_broken.is ∙ c.rates_broken.ensures s w h ∙ ap (λ t. told_of (flat_map (rate_kept s w t c.args.drifts.now.items) (nodes_of s))) dt)
     (told_later (flat_map (fibre_rate c.args.dt c.args.moves.now.items) (links_of s)) _ _ (sym c.in_default-rates_of_fibres_broken.is ∙ c.rates_of_fibres_broken.ensures s w p ∙ ap (λ t. told_of (flat_map (fibre_rate t c.args.moves.now.items) (links_of s))) dt)
-    (c.moved_fibres_broken.ensures s w c.args.dt c.args.drifts.now p)))
+    (c.fibres_broken.ensures s w c.args.dt c.args.drifts.now h)))
