@@ -1,10 +1,10 @@
 -- The change that an event makes by itself keeps the numbers of a plant in range.
-use Rattle.std.proofs.Common.{◌≡◌, ◌∙◌, refl, ap, ap₂, sym, subst, ℕ, ◌+◌, ◌<◌, ◌≤◌, ◌^◌, ◌==◌, ℤ, pos, ◌+ℤ◌, ◌≤ℤ◌, Bool, true, false, List, length, slice_get, Option, None, Some, unsigned_abs, arith}
+use Rattle.std.proofs.Common.{◌≡◌, ◌∙◌, refl, ap, sym, subst, ℕ, ◌+◌, ◌<◌, ◌≤◌, ◌^◌, ◌==◌, ℤ, pos, ◌+ℤ◌, ◌≤ℤ◌, Bool, true, false, List, length, slice_get, Option, None, Some, unsigned_abs, arith}
 use Rattle.std.proofs.lemmas.Int.{ints}
 use Rattle.std.proofs.lemmas.Option.{none-some}
 use Rattle.wrp_network.specs.declared.configuration.NetCfg.{NetCfg}
 use Rattle.wrp_network.specs.declared.network.LinkCfg.{LinkCfg}
-use Rattle.wrp_network.specs.Network.{link_above}
+use Rattle.wrp_network.specs.Network.{IsGrandmaster}
 use Rattle.wrp_caldb.specs.Database.{Database}
 use Rattle.wrp_config.specs.Accepted.{IsAccepted}
 use Rattle.wrp_course.specs.declared.clocks.ClockState.{ClockState}
@@ -136,7 +136,7 @@ plant_fits C S F t old new c f few ht hc hs clocks spans frames room puts later 
   room = subst (λ n. HasRoom n new) (sym c.spare) room;
   puts = subst (λ z. Each (λ k. SpanPutBy z) new.spans.items) (sym c.last_put) puts;
   put = subst (λ z. z ≤ℤ new.time) (sym c.last_put) (subst (λ z. old.last_put ≤ℤ z) (sym c.time) (later_still old.last_put old.time t f.put later));
-  top = ap₂ link_above c.cfg c.top ∙ f.top;
+  top = subst (λ (g : NetCfg). IsGrandmaster g new.top) (sym c.cfg) (subst (IsGrandmaster old.net.cfg) (sym c.top) f.top);
 }
 
 pub same_clocks : (e : ℕ) (xs ys : List ClockState) → ys ≡ xs → ClocksFit e xs → ClocksFit (e + 1) ys

@@ -1,6 +1,6 @@
 -- How the step of a node changes a plant: it changes as its state does, its numbers stay in range, and there is room
 -- for the remaining steps.
-use Rattle.std.proofs.Common.{◌≡◌, ◌∙◌, refl, ap, ap₂, sym, subst, ℕ, zero, suc, ◌+◌, ◌*◌, ◌==◌, ◌≤◌, ◌<◌, ◌^◌, ◌⊎◌, inl, inr, ℤ, pos, ◌+ℤ◌, ◌*ℤ◌, ◌≤ℤ◌, unsigned_abs, Bool, true, false, if◌then◌else◌, List, [], ◌∷◌, ◌++◌, length, map, Option, None, Some, slice_get, arith, lit<}
+use Rattle.std.proofs.Common.{◌≡◌, ◌∙◌, refl, ap, sym, subst, ℕ, zero, suc, ◌+◌, ◌*◌, ◌==◌, ◌≤◌, ◌<◌, ◌^◌, ◌⊎◌, inl, inr, ℤ, pos, ◌+ℤ◌, ◌*ℤ◌, ◌≤ℤ◌, unsigned_abs, Bool, true, false, if◌then◌else◌, List, [], ◌∷◌, ◌++◌, length, map, Option, None, Some, slice_get, arith, lit<}
 use Rattle.std.proofs.Math.Nat.{mul-le-mul}
 use Rattle.std.proofs.lemmas.Int.{unsigned_abs-mul}
 use Rattle.std.proofs.lemmas.Bool.{true≢false}
@@ -10,7 +10,7 @@ use Rattle.wrp_network.specs.declared.configuration.NetCfg.{NetCfg}
 use Rattle.wrp_base.specs.declared.time.Clock.{Clock}
 use Rattle.wrp_base.specs.declared.time.Clock.TheVariants.{Mhz125, Mhz62}
 use Rattle.wrp_network.specs.declared.network.LinkCfg.{LinkCfg}
-use Rattle.wrp_network.specs.Network.{link_above}
+use Rattle.wrp_network.specs.Network.{IsGrandmaster}
 use Rattle.wrp_caldb.specs.Database.{Database}
 use Rattle.wrp_config.specs.Accepted.{IsAccepted}
 use Rattle.wrp_node.specs.declared.interface.Input.{Input}
@@ -255,5 +255,5 @@ told_fits news outs old new c m spare put f = record {
       each_turned (TellsAt old.time news outs old.net.cfg.links.items) (λ n. SpanPutBy old.last_put) (λ n. SpanPutBy new.last_put) old.spans.items new.spans.items c.of_spans
       (λ k x y r h. span_put (sends outs) old.last_put new.last_put old.time news outs (slice_get old.net.cfg.links.items k) x y refl put f.put r h) f.puts;
   put = subst (λ z. new.last_put ≤ℤ z) (sym c.time) (subst (λ z. z ≤ℤ old.time) (sym put) (put_by_now (sends outs) old.last_put old.time f.put));
-  top = ap₂ link_above c.cfg c.top ∙ f.top;
+  top = subst (λ (g : NetCfg). IsGrandmaster g new.top) (sym c.cfg) (subst (IsGrandmaster old.net.cfg) (sym c.top) f.top);
 }
