@@ -199,30 +199,8 @@ fn append_one<F: Fn(i64) -> i64>(
     }
 }
 
-// Appends the lines of what a node put out in an event that led to this world. Most steps put out nothing, and
-// then nothing is asked of the world.
+// Appends the lines of what a node put out in an event that led to this world.
 fn append_step<F: Fn(i64) -> i64>(
-    alloc: Global,
-    world: &World<F>,
-    bounds: &[Tau],
-    out: &NodeOut,
-    text: &mut Vec<u8>,
-) -> Result<(), AllocError>
-    requires valid { IsValid F.pre F.post world.now }
-    requires bounds { AreBounds world.now.plant.net.cfg bounds.now }
-    requires node { out.now.node < node_count world.now.plant.net.cfg }
-    ensures { IfOk result (λ _. (s : Setting) (w : WorldAt)
-        → StandsFor F.post s w world.now → text.new.items ≡ text.old.items
-        ++ step_lines s w (step_seen out.now)) }
-{
-    if out.outs.is_empty() {
-        return Ok(());
-    }
-    append_put_out(alloc, world, bounds, out, text)
-}
-
-// The same for a node that put out something.
-fn append_put_out<F: Fn(i64) -> i64>(
     alloc: Global,
     world: &World<F>,
     bounds: &[Tau],

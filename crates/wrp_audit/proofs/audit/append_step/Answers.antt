@@ -6,7 +6,7 @@ use Rattle.wrp_network.specs.Network.{name_at}
 use Rattle.wrp_config.specs.declared.network.Network.{Network}
 use Rattle.wrp_audit.proofs.AuditSteps.{step_text}
 use Rattle.wrp_network_world.proofs.BoundLemmas.{bound_at}
-use Rattle.wrp_audit.proofs.audit.append_put_out.Goals as goal
+use Rattle.wrp_audit.proofs.audit.append_step.Goals as goal
 
 pub returns : goal.returns
 returns g c =
