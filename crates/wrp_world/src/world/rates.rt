@@ -110,8 +110,8 @@ impl<F: Fn(i64) -> i64> World<F> {
         }
     }
 
-    // The rate of a clock that is not steered: the grandmaster's clock does not drift. This is checked last,
-    // because it searches all links.
+    // The rate of a clock that is not steered: the grandmaster's clock does not drift, and any other has no rate to
+    // keep.
     fn still_rate(&self, n: u8) -> Option<u64>
         requires { IsValid F.pre F.post self.now }
         ensures value { Tells F.post (λ s w. if not (is_some (link_above s.cfg n)) then Some 0 else None) self.now result }
