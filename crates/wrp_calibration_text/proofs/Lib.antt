@@ -2,6 +2,7 @@ pub mod Values
 pub mod Refusals
 pub mod Refused
 pub mod Inserts
+pub mod BareFibres
 pub mod NamesMet
 pub mod Passes
 pub mod Depth

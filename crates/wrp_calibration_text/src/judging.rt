@@ -119,7 +119,7 @@ fn place_in_fibre_keys(code: Code, at: At, fibre: &Table) -> Option<Place>
 {
     match value_at(fibre, "table") {
         Some(_) => place_in_table(at, fibre, &tabled_fibre_rows(fibre), code),
-        None => place_in_table(at, fibre, &fibre_rows(fibre), code),
+        None => place_in_table(at, fibre, &fibre_rows(), code),
     }
 }
 

@@ -218,15 +218,15 @@ fn table_row(law: Option<Linear>) -> Row
     Row::optional("table", Sort::Points { law })
 }
 
-/// The rows of a fibre without a table.
-pub fn fibre_rows(fibre: &Table) -> [Row; 4]
-    ensures { result ≡ linear_keys (table_view fibre.now) [] }
+/// The rows of a fibre without a table. It has no points, so no law for them is worked out.
+pub fn fibre_rows() -> [Row; 4]
+    ensures { result ≡ name_key ∷ kappa_key ∷ fibre_err_key ∷ table_key None ∷ [] }
 {
     [
         fibre_name_row(),
         kappa_row(),
         fibre_err_row(),
-        table_row(law_of(fibre)),
+        table_row(None),
     ]
 }
 
