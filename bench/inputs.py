@@ -71,6 +71,13 @@ def three_run(length, is_cut=True):
     return network + "---\n" + "\n".join([f"length,{length}", *lines]) + "\n"
 
 
+def many_fibres():
+    """A run of no length of the example of three nodes, with a calibration database of 6,000 fibres."""
+    network, _ = example("simulation.txt")
+    fibres = "".join(f'[[fibre]]\nname="x{n}"\nkappa=1\nerr=9\n' for n in range(5_999))
+    return network + fibres + "---\nlength,0\n"
+
+
 def ticks(network):
     """A million ticks of a node."""
     return network + "---\n" + "tick\n" * MILLION
@@ -185,6 +192,8 @@ INPUTS = {
     "simulate-16-5s": (SIMULATE, lambda: tree_run(16, 5_000)),
     "simulate-32-5s": (SIMULATE, lambda: tree_run(32, 5_000)),
     "simulate-64-5s": (SIMULATE, lambda: tree_run(64, 5_000)),
+    "simulate-6000-fibres": (SIMULATE, many_fibres),
+    "loop-three-120s": (["loop", "--seed", "1"], lambda: three_run(120_000)),
     "inspect-old-pairs": (["inspect"], old_pairs),
     "inspect-new-pairs": (["inspect"], new_pairs),
 }

@@ -1,6 +1,7 @@
 -- What a `complete` names is in the packets of the capture.
 use Rattle.std.proofs.Common.{◌≡◌, ℕ, ◌+◌, ◌==◌, ◌&&◌, Bool, true, List, [], ◌∷◌, ◌++◌, length, map, reverse, Some, refl, sym, ap, ap₂, ◌∙◌, subst, arith, length-append}
 use Rattle.std.proofs.lemmas.List.{append_assoc, map-append, reverse-append, reverse-reverse}
+use Rattle.wrp_base.specs.Message.{is_port}
 use Rattle.wrp_base.specs.declared.message.Body.{Body}
 use Rattle.wrp_base.specs.declared.message.Body.TheVariants.{Signal}
 use Rattle.wrp_base.specs.declared.message.PortIdentity.{PortIdentity}
@@ -11,7 +12,7 @@ use Rattle.wrp_pcap.specs.declared.content.Content.TheVariants.{Other, Message, 
 use Rattle.wrp_pcap.specs.declared.verdict.Verdict8.{Verdict8}
 use Rattle.wrp_pcap.specs.declared.verdict.Verdict8.TheVariants.{Complete}
 use Rattle.wrp_pcap.specs.Capture.{StoredPacket}
-use Rattle.wrp_pcap.specs.Certificate.{Captured, carries, certificate, is_sent, same_port, to_slave_calibrated, verdict_on}
+use Rattle.wrp_pcap.specs.Certificate.{Captured, carries, certificate, is_sent, to_slave_calibrated, verdict_on}
 use Rattle.wrp_pcap.specs.Content.{HasContent, HaveContents, messages_of}
 use Rattle.wrp_pcap.specs.Handshakes.{AreIn, CompleteNamesHandshake, IsIn, is_mode_on}
 use Rattle.wrp_pcap.specs.Inspected.{Carry}
@@ -179,7 +180,7 @@ are_in packets newer (test ∷ tests) contents captured numbers carry are (earli
 same_number : (n : ℕ) → (n == n) ≡ true
 same_number n = grind (arith)
 
-same_self : (port : PortIdentity) → same_port port port ≡ true
+same_self : (port : PortIdentity) → is_port port port ≡ true
 same_self port = ap₂ (λ (a b : Bool). a && b) (same_number port.clock) (same_number port.port)
 
 pub is_sent_on : (source target : PortIdentity) (body : Body) → body ≡ Signal target (Some WR_MODE_ON) →

@@ -5,22 +5,23 @@ use Rattle.std.specs.BTreeMap as tree
 use Rattle.std.specs.Cmp.{both_tied, unsigned_tied}
 use Rattle.std.specs.Ordering.{is_eq}
 use Rattle.wrp_base.proofs.Booleans.{and_first, and_second}
+use Rattle.wrp_base.specs.Message.{is_port}
 use Rattle.wrp_base.specs.declared.message.PortIdentity.{PortIdentity}
 use Rattle.wrp_pcap.specs.declared.chain.Trail.{Trail}
 use Rattle.wrp_pcap.specs.declared.pairs.Pairs.{Pairs}
-use Rattle.wrp_pcap.specs.Certificate.{same_port, goes}
+use Rattle.wrp_pcap.specs.Certificate.{goes}
 use Rattle.wrp_pcap.specs.Chain.{trail_of}
 use Rattle.wrp_pcap.specs.StandsFor.{Key, key, port_cmp, key_cmp, trail_at, HasRoom, KeepsRoom, Opened, Written}
 
 -- ---- keys
 
-port_is : (a b : PortIdentity) → same_port a b ≡ is_eq (port_cmp (a.clock, a.port) (b.clock, b.port))
+port_is : (a b : PortIdentity) → is_port a b ≡ is_eq (port_cmp (a.clock, a.port) (b.clock, b.port))
 port_is a b = both_tied _ _ _ _ (sym (unsigned_tied a.clock b.clock)) (sym (unsigned_tied a.port b.port))
 
 key_is : (master slave m s : PortIdentity) → goes master slave m s ≡ is_eq (key_cmp (key master slave) (key m s))
 key_is master slave m s = both_tied _ _ _ _ (port_is master m) (port_is slave s)
 
-port_same : (a b : PortIdentity) → same_port a b ≡ true → a ≡ b
+port_same : (a b : PortIdentity) → is_port a b ≡ true → a ≡ b
 port_same a b is =
     let clock : a.clock ≡ b.clock = eqb-true a.clock b.clock (and_first (a.clock == b.clock) (a.port == b.port) is) in
     let port : a.port ≡ b.port = eqb-true a.port b.port (and_second (a.clock == b.clock) (a.port == b.port) is) in
@@ -29,8 +30,8 @@ port_same a b is =
 -- two chains are one if their pairs are
 chain_same : (pairs : Pairs) (master slave m s : PortIdentity) → goes master slave m s ≡ true → trail_at pairs master slave ≡ trail_at pairs m s
 chain_same pairs master slave m s is =
-    ap₂ (trail_at pairs) (port_same master m (and_first (same_port master m) (same_port slave s) is))
-    (port_same slave s (and_second (same_port master m) (same_port slave s) is))
+    ap₂ (trail_at pairs) (port_same master m (and_first (is_port master m) (is_port slave s) is))
+    (port_same slave s (and_second (is_port master m) (is_port slave s) is))
 
 -- ---- one entry
 

@@ -1,8 +1,9 @@
 -- The certificate of a handshake: whether the messages of one precede a WR_MODE_ON, looked for backwards from it.
 -- Lists of captured messages have the newest first (this project's profile).
-use Rattle.std.specs.Prelude.{ℕ, ◌<◌, ◌==◌, ◌&&◌, Bool, true, false, if◌then◌else◌, nat_lt, List, [], ◌∷◌, ◌++◌, length, get_or, Option, None, Some}
+use Rattle.std.specs.Prelude.{ℕ, ◌<◌, ◌&&◌, Bool, true, false, if◌then◌else◌, nat_lt, List, [], ◌∷◌, ◌++◌, length, get_or, Option, None, Some}
 use Rattle.std.specs.List.{AllByRecursion}
 use Rattle.std.specs.Option.{option_or}
+use Rattle.wrp_base.specs.Message.{is_port}
 use Rattle.wrp_base.specs.declared.message.Body.{Body}
 use Rattle.wrp_base.specs.declared.message.Body.TheVariants.{Signal}
 use Rattle.wrp_base.specs.declared.message.PortIdentity.{PortIdentity}
@@ -39,14 +40,10 @@ abbrev pub is_calibrated : WrMsg → Bool
 is_calibrated (CALIBRATED _ _) = true
 is_calibrated _ = false
 
--- whether two portIdentities are one
-abbrev pub same_port : PortIdentity → PortIdentity → Bool
-same_port a b = a.clock == b.clock && a.port == b.port
-
 -- whether what is sent from one port to another goes from this one to that: ports are compared literally, the target
 -- of all ones too
 abbrev pub goes : (source target : PortIdentity) → (from to : PortIdentity) → Bool
-goes source target from to = same_port source from && same_port target to
+goes source target from to = is_port source from && is_port target to
 
 -- whether a body is the body of a Signaling from one port to another with a White Rabbit message of this kind; the
 -- port that sent it is the first
