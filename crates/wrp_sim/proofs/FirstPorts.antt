@@ -18,7 +18,8 @@ use Rattle.wrp_course.proofs.RunNetwork.{LinkEnd, end_with, link_end, place_end}
 use Rattle.wrp_plant.proofs.EachLists.{at_place}
 use Rattle.wrp_sim.specs.declared.sim.departing.Departure.{Departure}
 use Rattle.wrp_sim.specs.Departures.{departing_at, departing_over, departure_from, first_of_two, standing, told_end}
-use Rattle.wrp_sim.specs.Rules.{departs_now, is_now, is_tellable, ports_of}
+use Rattle.wrp_plant.specs.PutOut.{is_now}
+use Rattle.wrp_sim.specs.Rules.{departs_now, is_tellable, ports_of}
 use Rattle.wrp_sim.proofs.Ends.{end_found}
 use Rattle.std.proofs.lemmas.List.Folds.{find-append}
 use Rattle.wrp_sim.proofs.SimLists.{find_map}

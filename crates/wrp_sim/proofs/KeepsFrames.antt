@@ -29,7 +29,8 @@ use Rattle.wrp_course.specs.Views.{IsNextArrival, oldest_of, waiting_of}
 use Rattle.wrp_course.specs.WorldAt.{Arrival, FrameAt, Sending, WorldAt, has_carrier, is_on_fibre, reading}
 use Rattle.wrp_course.proofs.RunNetwork.{LinkEnd, link_end}
 use Rattle.wrp_sim.specs.Numbers.{drawn_stamp}
-use Rattle.wrp_sim.specs.Rules.{after_arrival, after_draw, arrives, arrives_by, comes, delivers, departs, departs_from, departs_now, first_entry, is_now, is_tellable, ports_of, raw_by, raw_of, raw_to, stamp_room, true_raw}
+use Rattle.wrp_plant.specs.PutOut.{is_now}
+use Rattle.wrp_sim.specs.Rules.{after_arrival, after_draw, arrives, arrives_by, comes, delivers, departs, departs_from, departs_now, first_entry, is_tellable, ports_of, raw_by, raw_of, raw_to, stamp_room, true_raw}
 use Rattle.wrp_scene.specs.Scenario.{SceneAt}
 use Rattle.wrp_sim.specs.SimAt.{SimAt}
 use Rattle.wrp_sim.proofs.KeepsChecks.{both_hold, not_more, not_over, stands_holds}

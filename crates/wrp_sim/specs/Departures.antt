@@ -10,7 +10,8 @@ use Rattle.wrp_course.specs.Views.{oldest_of}
 use Rattle.wrp_course.specs.WorldAt.{WorldAt, reading}
 use Rattle.wrp_sim.specs.declared.sim.departing.Departure.{Departure}
 use Rattle.wrp_sim.specs.Numbers.{drawn_stamp}
-use Rattle.wrp_sim.specs.Rules.{after_draw, comes, is_now, is_tellable, stamp_room}
+use Rattle.wrp_plant.specs.PutOut.{is_now}
+use Rattle.wrp_sim.specs.Rules.{after_draw, comes, is_tellable, stamp_room}
 use Rattle.wrp_sim.specs.declared.sim.state.State.{State}
 use Rattle.wrp_sim.specs.Sim.{Gave}
 use Rattle.wrp_sim.specs.SimAt.{SimAt}

@@ -1,6 +1,6 @@
 -- What happens next in a network that is simulated: the first of nine rules that applies (this project's profile). Times are
 -- true times, in tau.
-use Rattle.std.specs.Prelude.{ℕ, ℤ, pos, ◌+◌, ◌-◌, ◌^◌, ◌==◌, ◌&&◌, ◌+ℤ◌, ◌-ℤ◌, nat_lt, not, Bool, false, if◌then◌else◌, List, [], ◌∷◌, ◌++◌, map, filter, find, flat_map, fold, Option, None, Some, option_map, option_and_then}
+use Rattle.std.specs.Prelude.{ℕ, ℤ, pos, ◌+◌, ◌-◌, ◌^◌, ◌==◌, ◌&&◌, ◌+ℤ◌, ◌-ℤ◌, nat_lt, not, Bool, if◌then◌else◌, List, [], ◌∷◌, ◌++◌, map, filter, find, flat_map, fold, Option, None, Some, option_map, option_and_then}
 use Rattle.std.specs.Int.Signed.{le_z, lt_z}
 use Rattle.std.specs.Option.{option_map_or}
 use Rattle.std.specs.Ordering.{int_eq}
@@ -14,6 +14,7 @@ use Rattle.wrp_base.specs.Link.{other_of}
 use Rattle.wrp_bounds.specs.Times.{shortest_tick, longest_tick}
 use Rattle.wrp_node.specs.NodeAt.{dac_of}
 use Rattle.wrp_phase.specs.BeatPattern.{true_step}
+use Rattle.wrp_plant.specs.PutOut.{is_now}
 use Rattle.wrp_course.specs.declared.event.Event.{Event}
 use Rattle.wrp_course.specs.declared.event.Event.TheVariants.{Pass, Tick, Sample, Depart, Arrive, Deliver, Down, Up, Cut, Join}
 use Rattle.wrp_course.specs.EventAt.{link_count}
@@ -151,9 +152,6 @@ is_tellable s at = is_within s.cfg.clock at
 -- ports by nodes in file order, then by their numbers, ascending: these are 1 to 18
 abbrev pub ports_of : Setting → List (ℕ × ℕ)
 ports_of s = flat_map (λ n. map (λ p. (n, p)) (from_on 18 1)) (nodes_of s)
-
-abbrev pub is_now : WorldAt → Option ℤ → Bool
-is_now w at = option_map_or (λ t. int_eq t w.time) at false
 
 abbrev pub departs_now : Setting → WorldAt → ℕ × ℕ → Bool
 departs_now s w port = is_now w (waiting_of s w port.0 port.1) && is_tellable s (reading w port.0)

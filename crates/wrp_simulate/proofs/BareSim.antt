@@ -18,7 +18,8 @@ use Rattle.wrp_phase.specs.BeatPattern.{true_step}
 use Rattle.wrp_scene.specs.declared.scene.fault.FaultKind.{FaultKind}
 use Rattle.wrp_scene.specs.declared.scene.fault.FaultKind.TheVariants as kind
 use Rattle.wrp_sim.specs.Numbers.{base_before, bits_behind, drawn_stamp, drawn_zeros, drift_at, held_to, own_rate, thousands}
-use Rattle.wrp_sim.specs.Rules.{Next, after_arrival, after_draw, arrives, begins, comes, delay_down, delivers, departs, due_times, end_time, fails, fault_of, fault_time, first_entry, first_of, is_now, is_over, is_tellable, join_event, next_fault, next_moment, next_of, one_begun, passes, raw_to, rest_of, sample_below, sample_of, samples, tick_of, ticks, ticks_now, true_raw, up_event, with_tick}
+use Rattle.wrp_plant.specs.PutOut.{is_now}
+use Rattle.wrp_sim.specs.Rules.{Next, after_arrival, after_draw, arrives, begins, comes, delay_down, delivers, departs, due_times, end_time, fails, fault_of, fault_time, first_entry, first_of, is_over, is_tellable, join_event, next_fault, next_moment, next_of, one_begun, passes, raw_to, rest_of, sample_below, sample_of, samples, tick_of, ticks, ticks_now, true_raw, up_event, with_tick}
 use Rattle.wrp_scene.specs.Scenario.{SceneAt, delta_ms, delta_sm, free_of, kappa_of, new_scene, sum_of}
 use Rattle.wrp_sim.specs.SimAt.{SimAt}
 use Rattle.wrp_sim.specs.SimRun.{Gives, IsSimRun}

@@ -11,6 +11,7 @@ ghost use Rattle.wrp_sim.specs.Sim.{FitsSim, Follows, Gave, SimIs, StaysFit, as_
 ghost use Rattle.wrp_sim.specs.Departures as departure;
 ghost use Rattle.wrp_sim.specs.Departures.{IsDeparture, departing_over, departs_by, departure_from};
 ghost use Rattle.wrp_course.specs.Views.{oldest_of};
+ghost use Rattle.wrp_plant.specs.PutOut.{is_now};
 ghost use Rattle.wrp_sim.specs.SimAt.{SimAt};
 ghost use Rattle.wrp_course.specs.Setting.{Setting, end_of, links_of};
 ghost use Rattle.wrp_world.specs.StandsFor.{IsValid, StandsFor, Tells};
@@ -59,7 +60,7 @@ fn port_at(link: &LinkCfg, role: Role) -> (u8, u16)
 fn is_put_out_now<F: Fn(i64) -> i64>(world: &World<F>, place: Place) -> bool
     requires valid { IsValid F.pre F.post world.now }
     requires link { place.link < length world.now.plant.net.cfg.links.items }
-    ensures { Tells F.post (λ s w. rule.is_now w (oldest_of (w.end_at place.link place.role).waiting)) world.now result }
+    ensures { Tells F.post (λ s w. is_now w (oldest_of (w.end_at place.link place.role).waiting)) world.now result }
 {
     let at = world.oldest_at(place);
     let now = world.time();
