@@ -13,7 +13,7 @@ use Rattle.wrp_course.specs.declared.event.Swap.{Swap}
 use Rattle.wrp_course.specs.Given.{at_ports, comes_from, event_steps, given_plain, gives_all, steps_of, world_step}
 use Rattle.wrp_node.specs.declared.interface.Input.TheVariants.{Reset}
 use Rattle.wrp_course.specs.Moved.{moved, port_number, swap_at, with_swap}
-use Rattle.wrp_course.specs.Premises.{checks_of, fibre_kept, module_kept, swap_stands, true_at_top}
+use Rattle.wrp_course.specs.Premises.{checks_of, fibre_kept, module_kept, swap_is_placed, true_at_top}
 use Rattle.wrp_course.specs.Run.{IsSaid}
 use Rattle.wrp_course.specs.Setting.{Setting, end_at, is_of, links_of}
 use Rattle.wrp_course.specs.WorldAt.{EndAt, WorldAt}
@@ -81,9 +81,9 @@ same_steps s says y w (Join k ms sm) = refl
 
 -- Premises
 
-swap_checks : (s : Setting) (n : ℕ) (swaps : List Swap) → map (swap_stands s n) (map bare_swap swaps) ≡ map (swap_stands s n) swaps
+swap_checks : (s : Setting) (n : ℕ) (swaps : List Swap) → map (swap_is_placed s n) (map bare_swap swaps) ≡ map (swap_is_placed s n) swaps
 swap_checks s n [] = refl
-swap_checks s n (swap ∷ swaps) = ap (λ (rest : List Check). swap_stands s n swap ∷ rest) (swap_checks s n swaps)
+swap_checks s n (swap ∷ swaps) = ap (λ (rest : List Check). swap_is_placed s n swap ∷ rest) (swap_checks s n swaps)
 
 module_checks_same : (s : Setting) (n : ℕ) (swaps : List Swap) → flat_map (module_kept s n) (map bare_swap swaps) ≡ flat_map (module_kept s n) swaps
 module_checks_same s n [] = refl

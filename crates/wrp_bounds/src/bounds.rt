@@ -5,7 +5,7 @@ ghost use Rattle.wrp_network.specs.Network.{HasRanges, IsTree, node_count};
 ghost use Rattle.wrp_bounds.specs.Bounds as spec;
 ghost use Rattle.wrp_bounds.specs.Bounds.{IsPlaced, hop_of, path_of, holdover_of};
 
-use crate::network::{held_motion, link_above, numbers_over};
+use crate::network::{held_motion, numbers_over, placed_above};
 use wrp_base::Tau;
 use wrp_network::{LinkCfg, NetCfg};
 
@@ -21,7 +21,7 @@ pub fn hop(cfg: &NetCfg, n: u8) -> Tau
     ensures value { result ≡ pos (hop_of cfg.now n) }
     ensures range { (pos 0 ≤ℤ result) × (result <ℤ pos (2 ^ 100)) }
 {
-    match link_above(cfg, n) {
+    match placed_above(cfg, n) {
         Some(link) => hop_over(cfg, link) as i128,
         None => 0,
     }
@@ -73,7 +73,7 @@ fn path_sum(cfg: &NetCfg, n: u8) -> u128
     let mut sum = 0;
     let mut at = n;
     for passed in 0..MOST_LINKS {
-        match link_above(cfg, at) {
+        match placed_above(cfg, at) {
             None => return sum,
             Some(link) => {
                 sum += hop_over(cfg, link) + held_motion(cfg, link.upper);

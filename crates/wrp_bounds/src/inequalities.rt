@@ -6,7 +6,7 @@ ghost use Rattle.wrp_bounds.specs.Inequalities as spec;
 ghost use Rattle.wrp_bounds.specs.Inequalities.{is_broken, inequalities, phase_rooms, answer_of, KeepsInequalities};
 
 use crate::inequality::{Clash, Inequality, Order};
-use crate::network::{link_above, numbers_over};
+use crate::network::{numbers_over, placed_above};
 use crate::numbers::HopNumbers;
 use crate::times::{count, frame_life, gap_time, longest_tick, reach, shortest_tick, ticks_of};
 use wrp_network::NetCfg;
@@ -95,7 +95,7 @@ fn phase_room_of(cfg: &NetCfg, n: u8) -> Option<Inequality>
     requires tree { IsTree cfg.now }
     ensures { result ≡ spec.phase_room_of cfg.now n }
 {
-    match link_above(cfg, n) {
+    match placed_above(cfg, n) {
         Some(link) => Some(phase_room(cfg, &numbers_over(cfg, link))),
         None => None,
     }

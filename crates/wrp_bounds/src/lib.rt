@@ -16,5 +16,5 @@ pub use bounds::{holdover, hop, path};
 pub use inequalities::check;
 pub use inequality::Clash;
 pub use laws::{grandmaster_is_exact, path_of_child, rounds_up};
-pub use network::{held_motion, link_above, numbers_over};
+pub use network::{held_motion, numbers_over, placed_above};
 pub use numbers::HopNumbers;

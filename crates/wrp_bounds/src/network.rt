@@ -10,23 +10,17 @@ ghost use Rattle.wrp_bounds.specs.Bounds.{IsPlaced};
 use crate::motion::motion;
 use crate::numbers::{HopNumbers, NodeNumbers};
 use crate::times::{age_time, count, gap_time, held_time, reach};
-use wrp_network::{LinkCfg, NetCfg, NodeCfg};
+use wrp_network::{LinkCfg, NetCfg, NodeCfg, link_above};
 
-// The first link that has this node as its lower end.
-fn first_above<'a>(cfg: &'a NetCfg, n: u8) -> Option<&'a LinkCfg>
-    ensures { option_map (λ link. link.now) result ≡ network.link_above cfg.now n }
-{
-    cfg.links.iter().find(|link| link.lower == n)
-}
-
-/// The link above a node. None if the node has none above it, as the root.
-pub fn link_above<'a>(cfg: &'a NetCfg, n: u8) -> Option<&'a LinkCfg>
+/// The link above a node, which is one of the network's and has its place in it. `None` if the node has no link
+/// above it, as the root.
+pub fn placed_above<'a>(cfg: &'a NetCfg, n: u8) -> Option<&'a LinkCfg>
     requires ranges { HasRanges cfg.now }
     requires tree { IsTree cfg.now }
     ensures value { option_map (λ link. link.now) result ≡ network.link_above cfg.now n }
     ensures placed { IfSome result (λ link. IsPlaced cfg.now link.now) }
 {
-    first_above(cfg, n)
+    link_above(cfg, n)
 }
 
 // A node.
@@ -95,7 +89,7 @@ pub fn held_motion(cfg: &NetCfg, n: u8) -> u128
     ensures value { result ≡ spec.held_motion cfg.now n }
     ensures size { result ≤ 2 ^ 72 }
 {
-    match link_above(cfg, n) {
+    match placed_above(cfg, n) {
         Some(_) => motion(u128::from(node_at(cfg, n).held), held_time(cfg)),
         None => 0,
     }

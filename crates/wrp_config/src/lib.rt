@@ -8,4 +8,4 @@ mod laws;
 mod network;
 
 pub use laws::{child_is_deeper, modules_are_listed, one_grandmaster, port_is_of_one_link};
-pub use network::{Network, link_above, pair_at};
+pub use network::{Network, is_lower_end, is_upper_end, pair_at};

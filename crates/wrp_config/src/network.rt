@@ -2,7 +2,6 @@
 ghost use Rattle.std.specs.Prelude.{◌≡◌, ◌<◌, length, option_map, IfSome};
 ghost use Rattle.std.specs.List.{find, position};
 ghost use Rattle.wrp_caldb.specs.Name.{same_name};
-ghost use Rattle.wrp_network.specs.Network as network;
 ghost use Rattle.wrp_config.specs.Names as spec;
 ghost use Rattle.wrp_config.specs.Names.{has_port, is_lower_end, is_upper_end, pair_at, pair_of, listed_at};
 
@@ -97,13 +96,15 @@ fn link_place(links: &[LinkCfg], name: &str) -> Option<usize>
     links.iter().position(|link| is_link_named(link, name))
 }
 
-fn is_upper_end(link: &LinkCfg, node: u8, port: u16) -> bool
+/// Whether this port of this node is the upper end of a link.
+pub fn is_upper_end(link: &LinkCfg, node: u8, port: u16) -> bool
     ensures { result ≡ is_upper_end node port link.now }
 {
     link.upper == node && link.upper_port == port
 }
 
-fn is_lower_end(link: &LinkCfg, node: u8, port: u16) -> bool
+/// Whether this port of this node is the lower end of a link.
+pub fn is_lower_end(link: &LinkCfg, node: u8, port: u16) -> bool
     ensures { result ≡ is_lower_end node port link.now }
 {
     link.lower == node && link.lower_port == port
@@ -131,13 +132,6 @@ pub fn pair_at(cfg: &NetCfg, node: u8, port: u16) -> Option<(u16, u16)>
         Some(link) => Some(pair_of(link, node, port)),
         None => None,
     }
-}
-
-/// The first link that has this node as its lower end. `None` if and only if the node has no parent.
-pub fn link_above<'a>(cfg: &'a NetCfg, n: u8) -> Option<&'a LinkCfg>
-    ensures { option_map (λ link. link.now) result ≡ network.link_above cfg.now n }
-{
-    cfg.links.iter().find(|link| link.lower == n)
 }
 
 // The wavelengths that a port at an end of a link sends and receives, in nm.

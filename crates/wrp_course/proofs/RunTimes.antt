@@ -17,7 +17,7 @@ use Rattle.wrp_course.specs.EventAt.{IsEventOf}
 use Rattle.wrp_course.specs.Given.{Given, given_by, gives, gives_all, step_of, world_step}
 use Rattle.wrp_course.specs.Moved.{moved, end_after, is_place, loses, swap_at, port_number, with_swap, behind_first}
 use Rattle.wrp_course.specs.Checks.{Holds, needs}
-use Rattle.wrp_course.specs.Premises.{Accepts, fibre_kept, module_kept, swap_stands}
+use Rattle.wrp_course.specs.Premises.{Accepts, fibre_kept, module_kept, swap_is_placed}
 use Rattle.wrp_course.specs.Run.{Happened, world_after}
 use Rattle.wrp_course.specs.RunLaws.{ModulesStay, SameModule, TimeNeverFalls}
 use Rattle.wrp_course.specs.Runs.{AllEvents}
@@ -96,9 +96,9 @@ all_right P (x ∷ xs) ys h = all_right P xs ys h.1
 pub comes_up_down : (s : Setting) (w : WorldAt) (says : Result PtpMsg FrameFault) (n : ℕ) (off : ℤ) (swaps : Items Swap) → Accepts s w says (Up n off swaps) → not (not (w.clock n).up) ≡ false
 comes_up_down s w says n off swaps a =
     let v : WorldAt = moved s w (Up n off swaps) in
-    (all_right Holds (map (swap_stands s n) swaps.items) (needs (not (w.clock n).up) ∷ [])
-    (all_right Holds (flat_map (module_kept s n) swaps.items) (map (swap_stands s n) swaps.items ++ (needs (not (w.clock n).up) ∷ []))
-    (all_right Holds (flat_map (fibre_kept s v) (links_of s)) (flat_map (module_kept s n) swaps.items ++ (map (swap_stands s n) swaps.items ++ (needs (not (w.clock n).up) ∷ []))) a.1))).0
+    (all_right Holds (map (swap_is_placed s n) swaps.items) (needs (not (w.clock n).up) ∷ [])
+    (all_right Holds (flat_map (module_kept s n) swaps.items) (map (swap_is_placed s n) swaps.items ++ (needs (not (w.clock n).up) ∷ []))
+    (all_right Holds (flat_map (fibre_kept s v) (links_of s)) (flat_map (module_kept s n) swaps.items ++ (map (swap_is_placed s n) swaps.items ++ (needs (not (w.clock n).up) ∷ []))) a.1))).0
 
 pub moved_module : (s : Setting) (w : WorldAt) (says : Result PtpMsg FrameFault) (e : Event) (k : ℕ) (r : Role) → Accepts s w says e → has_carrier s w k ≡ true → SameModule (w.end_at k r) (end_after s w e k r)
 moved_module s w says (Depart n p stamp) k r a c =

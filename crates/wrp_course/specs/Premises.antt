@@ -270,8 +270,8 @@ pass_checks s w v dt drifts moves =
     ++ flat_map (fibre_kept s v) (links_of s)))
 
 -- a swap is at a port of a link
-abbrev pub swap_stands : Setting → ℕ → Swap → Check
-swap_stands s n swap = needs (is_some (place_of s n swap.port))
+abbrev pub swap_is_placed : Setting → ℕ → Swap → Check
+swap_is_placed s n swap = needs (is_some (place_of s n swap.port))
 
 -- the checks of an Up: the grandmaster's offset (3), the fibres with the new modules (5), the modules (6), and that
 -- each swap is at a port of a link and the node is down (13)
@@ -280,7 +280,7 @@ up_checks s w v n off swaps =
     true_at_top s n off
     ∷ (flat_map (fibre_kept s v) (links_of s)
     ++ (flat_map (module_kept s n) swaps
-    ++ (map (swap_stands s n) swaps ++ (needs (not (w.clock n).up) ∷ []))))
+    ++ (map (swap_is_placed s n) swaps ++ (needs (not (w.clock n).up) ∷ []))))
 
 -- the checks of each kind of event, in order; says is what the octets of a Noise say
 abbrev pub checks : Setting → (w v : WorldAt) → Result PtpMsg FrameFault → Event → List Check

@@ -1,10 +1,10 @@
 //! Which end of which link a port of a node is.
 ghost use Rattle.std.specs.Prelude.{◌≡◌, ◌<◌, length, IfSome};
 ghost use Rattle.wrp_base.specs.Link.{other_of};
-ghost use Rattle.wrp_config.specs.Names as names;
 ghost use Rattle.wrp_course.specs.Setting.{across, place_among, sends_nm};
 
 use wrp_base::Role;
+use wrp_config::{is_lower_end, is_upper_end};
 use wrp_network::{LinkCfg, NetCfg};
 
 /// An end of a link.
@@ -46,18 +46,6 @@ pub fn sends_nm(role: Role, link: &LinkCfg) -> u16
         Role::Master => link.down_nm,
         Role::Slave => link.up_nm,
     }
-}
-
-fn is_upper_end(link: &LinkCfg, n: u8, port: u16) -> bool
-    ensures { result ≡ names.is_upper_end n port link.now }
-{
-    link.upper == n && link.upper_port == port
-}
-
-fn is_lower_end(link: &LinkCfg, n: u8, port: u16) -> bool
-    ensures { result ≡ names.is_lower_end n port link.now }
-{
-    link.lower == n && link.lower_port == port
 }
 
 /// The end that a port of a node is. `None` if and only if no link has that port; `cfg` is only

@@ -3,7 +3,7 @@ mod rows;
 mod states;
 mod ticks;
 
-ghost use Rattle.std.specs.Prelude.{◌≡◌, ◌≤◌, ◌↔◌, ℕ, List, [], Some, option_map, true, false};
+ghost use Rattle.std.specs.Prelude.{◌≡◌, ◌≤◌, ◌↔◌, ℕ, Bool, List, [], Some, option_map, true, false};
 ghost use Rattle.wrp_base.specs.Calls.{Adds};
 ghost use Rattle.wrp_link.specs.declared.interface.LinkIn.{LinkIn};
 ghost use Rattle.wrp_link.specs.LinkAt.{new_link};
@@ -108,17 +108,18 @@ impl Link {
     }
 
     /// Takes a tick if the link only counts it, and then answers true: without a carrier, in IDLE and in WR_LINK_ON.
-    /// Nothing is sent, and the state stays. This is `step` without an answer, for what most ticks are. In any
-    /// other state nothing changes, and the answer is false.
-    pub fn count_tick(&mut self, locked: bool) -> bool
-        ensures counted { result ≡ true → self.new ≡ after self.old (LinkIn.Tick locked) }
-        ensures silent { result ≡ true → sends_of self.old (LinkIn.Tick locked) ≡ [] }
+    /// There it does not matter whether the servo is locked. Nothing is sent, and the state stays. This is `step`
+    /// without an answer, for what most ticks are. In any other state nothing changes, and the answer is false.
+    pub fn count_tick(&mut self) -> bool
+        ensures counted { (locked : Bool) → result ≡ true → self.new ≡ after self.old (LinkIn.Tick locked) }
+        ensures silent { (locked : Bool) → result ≡ true → sends_of self.old (LinkIn.Tick locked) ≡ [] }
         ensures kept { result ≡ false → self.new ≡ self.old }
 
         // The link stands for the list of its inputs.
-        ensures stands { result ≡ true → Adds StandsFor self.old self.new (LinkIn.Tick locked) }
+        ensures stands { (locked : Bool) → result ≡ true →
+            Adds StandsFor self.old self.new (LinkIn.Tick locked) }
     {
-        self.counts(locked)
+        self.counts()
     }
 
     /// The state of link setup.
@@ -158,12 +159,11 @@ impl Link {
     }
 
     // Takes a tick that is only counted, if it is one.
-    fn counts(&mut self, locked: bool) -> bool
-        ensures counted { result ≡ true → self.new ≡ after self.old (LinkIn.Tick locked) }
-        ensures silent { result ≡ true → sends_of self.old (LinkIn.Tick locked) ≡ [] }
+    fn counts(&mut self) -> bool
+        ensures counted { (locked : Bool) → result ≡ true → self.new ≡ after self.old (LinkIn.Tick locked) }
+        ensures silent { (locked : Bool) → result ≡ true → sends_of self.old (LinkIn.Tick locked) ≡ [] }
         ensures kept { result ≡ false → self.new ≡ self.old }
     {
-        let _any = locked;
         match self.state {
             _ if !self.carrier => true,
             LinkState::Idle => {

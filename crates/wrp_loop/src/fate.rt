@@ -1,6 +1,5 @@
 //! What becomes of a datagram that a link gave.
 ghost use Rattle.std.specs.Prelude.{◌≡◌, ◌↔◌, true};
-ghost use Rattle.wrp_base.specs.Message.{is_port};
 ghost use Rattle.wrp_loop.specs.Datagrams.{IsBy, IsFate, Way};
 ghost use Rattle.wrp_loop.specs.LoopRun.{LoopAt, Plan, events_at};
 ghost use Rattle.wrp_loop.specs.LoopStands.{Carries};
@@ -21,19 +20,12 @@ pub enum Fate {
     Noisy,
 }
 
-// Whether two ports are the same.
-fn is_same_port(a: PortIdentity, b: PortIdentity) -> bool
-    ensures { result ≡ is_port a b }
-{
-    a.clock == b.clock && a.port == b.port
-}
-
 // Whether octets say a message of a port.
 fn is_by(port: PortIdentity, octets: &[u8]) -> bool
     ensures { (result ≡ true) ↔ IsBy port octets.now }
 {
     match decode(octets) {
-        Ok(message) => is_same_port(message.head.source, port),
+        Ok(message) => message.head.source == port,
         Err(_) => false,
     }
 }

@@ -1,5 +1,8 @@
 //! The numbers of a whole network, as the table `[network]` of its file has them.
-use crate::network::{Links, Nodes};
+ghost use Rattle.std.specs.Prelude.{◌≡◌, option_map};
+ghost use Rattle.wrp_network.specs.Network as spec;
+
+use crate::network::{LinkCfg, Links, Nodes};
 use wrp_base::Clock;
 
 /// A network: one number for each key of `[network]`, then the nodes and the links, and what the
@@ -79,4 +82,11 @@ pub struct NetCfg {
     pub tx_max: u64,
     /// The greatest `rx` of the listed modules, in tau: 0 to `10^12`, and 0 if none is listed.
     pub rx_max: u64,
+}
+
+/// The first link that has this node as its lower end. `None` if and only if the node has no parent.
+pub fn link_above<'a>(cfg: &'a NetCfg, n: u8) -> Option<&'a LinkCfg>
+    ensures { option_map (λ link. link.now) result ≡ spec.link_above cfg.now n }
+{
+    cfg.links.iter().find(|link| link.lower == n)
 }

@@ -5,5 +5,5 @@
 mod configuration;
 mod network;
 
-pub use configuration::NetCfg;
+pub use configuration::{NetCfg, link_above};
 pub use network::{LinkCfg, Name, NodeCfg};

@@ -328,8 +328,9 @@ fn least_of(
 }
 
 /// Why a table of a network file is refused: the least code that has a place, at its first place. `network`
-/// is the table `network` of the text, and `lists` are its modules and fibres. Memory is taken if no code
-/// below `Twice` has a place.
+/// is the table `network` of the text, and `lists` are its modules and fibres. `None` if no code has a place: the
+/// table is taken. Memory is needed only if no code below `Twice` has a place. `AllocError` if there is not enough;
+/// the table stays as it is.
 pub fn refusal(
     alloc: Global,
     doc: &Table,

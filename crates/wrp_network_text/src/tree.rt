@@ -2,8 +2,7 @@
 ghost use Rattle.std.specs.Prelude.{◌≡◌, ◌+◌, ◌≤◌, IfSome, option_map};
 ghost use Rattle.wrp_network_text.specs.Tree.{is_root, some_below, depth_within, depth_of, stands_apart, has_two_parents, is_over_8, is_too_deep, has_fault, IsFirst, IsRefusal, number_of};
 
-use wrp_config::link_above;
-use wrp_network::NetCfg;
+use wrp_network::{NetCfg, link_above};
 
 /// Why the links make no such tree, by the number that a refusal's line has.
 #[derive(Clone, Copy)]

@@ -31,7 +31,7 @@ use Rattle.wrp_course.specs.declared.place.Place.{Place}
 use Rattle.wrp_course.specs.Given.{Given, NodeStepAt, at_ports, comes_from, delivered, delivered_by, delivered_to, end_given, event_steps, given_by, given_plain, gives, gives_all, goes_from, if_carried, node_step_of, sent_oldest, step_of, steps_of, world_step}
 use Rattle.wrp_course.specs.Run.{Happened, steps_at, world_after, IsAnswered}
 use Rattle.wrp_course.specs.Moved.{moved, arrived, behind_first, departing, drift_of, is_place, one_more, samples_at, swap_at, with_swap, waiting_at}
-use Rattle.wrp_course.specs.Premises.{arrive_checks, beat_by, beat_checks, checks, checks_of, deliver_by, deliver_checks, depart_checks, entry_for, fibre_checks, fibre_kept, fibre_rate, is_forged, module_checks, module_kept, noise_checks, pass_checks, rate_checks, rate_of, raw_checks, received, sample_checks, swap_stands, tick_late, too_old, true_at_top}
+use Rattle.wrp_course.specs.Premises.{arrive_checks, beat_by, beat_checks, checks, checks_of, deliver_by, deliver_checks, depart_checks, entry_for, fibre_checks, fibre_kept, fibre_rate, is_forged, module_checks, module_kept, noise_checks, pass_checks, rate_checks, rate_of, raw_checks, received, sample_checks, swap_is_placed, tick_late, too_old, true_at_top}
 use Rattle.wrp_stamp.specs.Merge.{transition_of}
 use Rattle.wrp_course.specs.Setting.{Setting, above, end_at, end_of, entry_at, node_setting_of, from_on, is_of, is_role, link_of, links_of, nodes_of, of_node, place_among, place_of, sends_nm}
 use Rattle.wrp_course.specs.WorldAt.{Arrival, FrameAt, Sending, WorldAt, ends_are_up, first_name, has_carrier, is_on_fibre, named_at, new_end, new_world, phase_of, reading}
@@ -292,7 +292,7 @@ modules_bare : (s : Setting) (n : ℕ) → module_kept (bare_setting s) n ≡ mo
 modules_bare s n = λ i swap.
     module_checks swap ((ap (entry_for (bare_setting s) swap) (λ j. places_bare s j n swap.port) ∙ entry_for_bare s swap (place_of s n swap.port)) i)
 
-swaps_bare : (s : Setting) (n : ℕ) → swap_stands (bare_setting s) n ≡ swap_stands s n
+swaps_bare : (s : Setting) (n : ℕ) → swap_is_placed (bare_setting s) n ≡ swap_is_placed s n
 swaps_bare s n = λ i swap. needs (is_some (places_bare s i n swap.port))
 
 pass_bare : (s : Setting) (w v : WorldAt) (dt : ℤ) (drifts : List ℤ) (moves : List (ℤ × ℤ))

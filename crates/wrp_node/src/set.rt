@@ -14,7 +14,7 @@ use arrayvec::ArrayVec;
 use wrp_base::{PortIdentity, Role};
 use wrp_data::{DefaultDs, PortDs};
 use wrp_link::LinkSet;
-use wrp_network::{LinkCfg, NetCfg};
+use wrp_network::{LinkCfg, NetCfg, link_above};
 use wrp_port::Sched;
 use wrp_servo::ServoSet;
 
@@ -124,13 +124,6 @@ fn identity_of(net: &NetCfg, n: u8) -> u64
         Some(node) => node.identity,
         None => 0,
     }
-}
-
-// The link above a node.
-fn link_above<'a>(net: &'a NetCfg, n: u8) -> Option<&'a LinkCfg>
-    ensures { option_map (λ link. link.now) result ≡ network.link_above net.now n }
-{
-    net.links.iter().find(|link| link.lower == n)
 }
 
 // How many links lead from a node up to the grandmaster, and which node that is.

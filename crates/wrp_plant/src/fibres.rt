@@ -1,5 +1,6 @@
 //! A fibre whose delays change, and by how much an event changes them.
-ghost use Rattle.std.specs.Prelude.{◌≡◌, ◌≤◌, ◌+ℤ◌, ◌^◌, unsigned_abs};
+ghost use Rattle.std.specs.Prelude.{◌≡◌, ◌≤◌, ◌&&◌, ◌+ℤ◌, ◌^◌, pos, true, unsigned_abs};
+ghost use Rattle.std.specs.Ordering.{int_eq};
 ghost use Rattle.wrp_course.specs.Moved.{move_of};
 ghost use Rattle.wrp_plant.specs.Plant.{moved_fibre};
 ghost use Rattle.wrp_plant.specs.Sizes.{IsDelay};
@@ -27,6 +28,14 @@ pub fn up_at(moves: &[(i64, i64)], k: usize) -> i64
         Some(by) => by.1,
         None => 0,
     }
+}
+
+/// Whether a move is 0 both ways.
+pub fn is_still(by: &(i64, i64)) -> bool
+    ensures value { result ≡ (int_eq by.now.0 (pos 0) && int_eq by.now.1 (pos 0)) }
+    ensures still { result ≡ true → by.now ≡ (pos 0, pos 0) }
+{
+    by.0 == 0 && by.1 == 0
 }
 
 /// Changes the delays of a fibre, down and up.

@@ -9,7 +9,7 @@ mod swaps;
 mod times;
 
 pub use ends::{Delays, EndState, PutOut, Span, with_ports};
-pub use fibres::{down_at, move_by, moved, up_at};
+pub use fibres::{down_at, is_still, move_by, moved, up_at};
 pub use plant::Plant;
 pub use plant::new::start_of;
 pub use swaps::swap_for;

@@ -1,5 +1,5 @@
 //! A port's line, which is all of the port but its exchange.
-ghost use Rattle.std.specs.Prelude.{◌≡◌, ◌≤◌, ◌<◌, ◌+◌, ◌%◌, ◌++◌, [], true, false, length};
+ghost use Rattle.std.specs.Prelude.{◌≡◌, ◌≤◌, ◌<◌, ◌+◌, ◌%◌, ◌++◌, Bool, [], true, false, length};
 ghost use Rattle.wrp_link.specs.Table.{sends_of as link_sends_of, is_used};
 ghost use Rattle.wrp_port.specs.LineAfter.{first_turns, next_turns, first_ids, new_line, told, ticked, scheduled, announced, synced, requested, announces_on, syncs_on, requests_on, is_due};
 ghost use Rattle.wrp_port.specs.Messages.{announce_of, sync_of, request_of};
@@ -148,10 +148,11 @@ impl Rest {
 
     /// The same if the link only counts the tick and sends nothing, and then the answer is true. Otherwise nothing
     /// changes.
-    pub fn tick_on(&mut self, set: &Setting, locked: bool) -> bool
+    pub fn tick_on(&mut self, set: &Setting) -> bool
         requires { IsSetting set.now }
-        ensures line { result ≡ true → self.new ≡ ticked set.now self.old locked }
-        ensures sends { result ≡ true → link_sends_of self.old.link (LinkIn.Tick locked) ≡ [] }
+        ensures line { (locked : Bool) → result ≡ true → self.new ≡ ticked set.now self.old locked }
+        ensures sends { (locked : Bool) → result ≡ true →
+            link_sends_of self.old.link (LinkIn.Tick locked) ≡ [] }
         ensures kept { result ≡ false → self.new ≡ self.old }
     {
         let turns = if is_open(&self.link) {
@@ -159,7 +160,7 @@ impl Rest {
         } else {
             Turns::new()
         };
-        if !self.link.count_tick(locked) {
+        if !self.link.count_tick() {
             return false;
         }
         self.turns = if is_open(&self.link) {
@@ -167,6 +168,7 @@ impl Rest {
         } else {
             Turns::new()
         };
+        // No message takes a sequenceId; the definition adds how many do.
         self.ids.signal = self.ids.signal.wrapping_add(0);
         true
     }

@@ -40,7 +40,7 @@ pub fn at_least(premise: u8, shown: Tau, bound: Tau) -> Option<Breach>
 
 /// Checks that what the event needs is there. `None` if it is; otherwise premise 13, as 0 against
 /// 1.
-pub fn stands(holds: bool) -> Option<Breach>
+pub fn needs(holds: bool) -> Option<Breach>
     ensures { result ≡ told_of (spec.needs holds ∷ []) }
 {
     if holds {

@@ -11,7 +11,7 @@ ghost use Rattle.wrp_course.specs.Setting.{Setting};
 ghost use Rattle.wrp_plant.specs.Sizes.{IsTime};
 ghost use Rattle.wrp_course.specs.WorldAt.{FrameAt, WorldAt, has_carrier};
 
-use crate::checks::{not_sent, stands};
+use crate::checks::{needs, not_sent};
 use crate::premises::life::young_enough;
 use wrp_base::Tau;
 use wrp_course::Breach;
@@ -28,7 +28,7 @@ pub fn deliver_broken(plant: &Plant, number: u32) -> Option<Breach>
 {
     match plant.frames.sent_at(number) {
         Some(sent) => handed_broken(plant, number, sent),
-        None => not_sent_broken(plant, None, number),
+        None => not_sent_broken(plant, number),
     }
 }
 
@@ -55,7 +55,7 @@ fn young_broken(plant: &Plant, number: u32) -> Option<Breach>
 {
     match plant.frame(number) {
         Some(frame) => landed_broken(plant, number, frame),
-        None => not_sent_broken(plant, None, number),
+        None => not_sent_broken(plant, number),
     }
 }
 
@@ -71,7 +71,7 @@ fn landed_broken(plant: &Plant, number: u32, frame: &Departed) -> Option<Breach>
     if arrived {
         carrier_broken(plant, None, frame.link)
     } else {
-        not_sent_broken(plant, None, number)
+        not_sent_broken(plant, number)
     }
 }
 
@@ -98,18 +98,17 @@ pub fn carrier_broken(plant: &Plant, so_far: Option<Breach>, k: u8) -> Option<Br
         → result ≡ option_or so_far (told_of (spec.needs (has_carrier s w k) ∷ [])) }
 {
     let carrier = plant.has_carrier(k);
-    so_far.or(stands(carrier))
+    so_far.or(needs(carrier))
 }
 
-/// The breach that was found so far; if there is none, premise 11: there is no frame of this number.
-/// Never `None`.
-pub fn not_sent_broken(plant: &Plant, so_far: Option<Breach>, number: u32) -> Option<Breach>
+/// Premise 11: there is no frame of this number, against how many frames have departed. Never `None`.
+pub fn not_sent_broken(plant: &Plant, number: u32) -> Option<Breach>
     requires { FitsPlant plant.now }
     ensures { (s : Setting) (w : WorldAt) → PlantIs s w plant.now
-        → result ≡ option_or so_far (told_of (spec.not_sent number w.departed ∷ [])) }
+        → result ≡ told_of (spec.not_sent number w.departed ∷ []) }
 {
     let count = frame_count(plant);
-    so_far.or(not_sent(number, count))
+    not_sent(number, count)
 }
 
 // How many frames have departed.

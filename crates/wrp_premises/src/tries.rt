@@ -16,7 +16,7 @@ ghost use Rattle.wrp_course.specs.Setting.{Setting, above};
 ghost use Rattle.wrp_plant.specs.Sizes.{IsTime};
 ghost use Rattle.wrp_course.specs.WorldAt.{WorldAt, delay_from, phase_of};
 
-use crate::checks::stands;
+use crate::checks::needs;
 use crate::premises::beat::beat_kept;
 use crate::premises::ticks::tick_early;
 use wrp_base::{Tau, sum};
@@ -36,7 +36,7 @@ pub fn tick_broken(plant: &Plant, n: u8) -> Option<Breach>
     let now = plant.now();
     let clock = plant.clock(n);
     let up = plant.is_up(n);
-    tick_early(least, now, clock).or(stands(up))
+    tick_early(least, now, clock).or(needs(up))
 }
 
 /// Premise 13: a node that goes down is up. `None` if it is; otherwise 0 against 1.
@@ -46,7 +46,7 @@ pub fn down_broken(plant: &Plant, n: u8) -> Option<Breach>
     ensures { (s : Setting) (w : WorldAt) → PlantIs s w plant.now
         → result ≡ told_of (spec.needs (w.clock n).up ∷ []) }
 {
-    stands(plant.is_up(n))
+    needs(plant.is_up(n))
 }
 
 /// Premise 13: a link that is cut is joined. `None` if it is; otherwise 0 against 1.
@@ -56,7 +56,7 @@ pub fn cut_broken(plant: &Plant, k: u8) -> Option<Breach>
     ensures { (s : Setting) (w : WorldAt) → PlantIs s w plant.now
         → result ≡ told_of (spec.needs (w.fibre k).joined ∷ []) }
 {
-    stands(plant.joined(k))
+    needs(plant.joined(k))
 }
 
 // The true one-way delay down, in tau.
@@ -101,7 +101,7 @@ fn beat_broken(plant: &Plant, n: u8, k: u8, base: u16, bits: u64) -> Option<Brea
         let phase = phase(plant, k, link);
         beat_kept(cfg.clock, node.beat, base, bits, phase)
     } else {
-        stands(false)
+        needs(false)
     }
 }
 
@@ -117,6 +117,6 @@ pub fn sample_broken(plant: &Plant, n: u8, base: u16, bits: u64) -> Option<Breac
 {
     match plant.above(n) {
         Some(k) => beat_broken(plant, n, k, base, bits),
-        None => stands(false),
+        None => needs(false),
     }
 }

@@ -1,7 +1,6 @@
 -- The fields of an event line say of a node what the event says of it.
-use Rattle.std.proofs.Common.{◌≡◌, inl, inr, ◌∙◌, refl, ap, sym, subst, ℕ, zero, suc, ◌+◌, ◌<◌, ◌≤◌, ◌==◌, ◌&&◌, ℤ, pos, negsuc, Bool, true, false, if◌then◌else◌, cond, is_some, List, [], ◌∷◌, length, drop, Option, None, Some, Result, Ok, Err, arith, codes}
+use Rattle.std.proofs.Common.{◌≡◌, inl, inr, ◌∙◌, refl, ap, sym, subst, ℕ, zero, suc, ◌+◌, ◌<◌, ◌≤◌, ◌==◌, ◌&&◌, ℤ, pos, negsuc, Bool, true, false, if◌then◌else◌, is_some, List, [], ◌∷◌, length, drop, Option, None, Some, Result, Ok, Err, arith, codes}
 use Rattle.std.specs.Prelude.{nat_le, option_and_then, option_map, slice_get, slice_set, unwrap_or}
-use Rattle.std.specs.List.{find}
 use Rattle.std.specs.Option.{option_map_or}
 use Rattle.std.proofs.lemmas.Bool.{and_parts, eqb-true, false_from_ne_true, leb-true}
 use Rattle.std.proofs.lemmas.Bool.Decides.{eqb_tells}
@@ -34,6 +33,7 @@ use Rattle.wrp_trace.specs.Events.{counted_of, event_of, event_read, fields_of_k
 use Rattle.wrp_trace.specs.Fields.{bits_at, u32_at, octets_at, raw_from, u16_at, step_at, time_at}
 use Rattle.wrp_trace.specs.Swaps.{swaps_said}
 use Rattle.wrp_trace.proofs.EventsFit.{Both, both, found, ok_same, read_as}
+use Rattle.wrp_trace.proofs.Listed.{first_found}
 use Rattle.wrp_printed_laws.specs.Laws.{SaysEvent}
 use Rattle.wrp_printed_laws.specs.Offsets.{drift_in, passed_in, start_in, ticks_in}
 use Rattle.wrp_printed_laws.proofs.Events.{drift_by, start_by, tick_by}
@@ -412,18 +412,6 @@ kind_tells cfg names n below kinds.Join fields e size word h =
 
 -- Lines
 
-first_in : {X : Type 0} (p : X → Bool) (y : X) (ys : List X) (x : X) (b : Bool) → p y ≡ b → (find p ys ≡ Some x → p x ≡ true)
-    → cond b (Some y) (find p ys) ≡ Some x → p x ≡ true
-first_in p y ys x true is more e =
-    let same : y ≡ x = ap (λ o. unwrap_or o x) e in
-    subst (λ z. p z ≡ true) same is
-first_in p y ys x false is more e = more e
-
--- the first that passes a test passes it
-first_passes : {X : Type 0} (p : X → Bool) (xs : List X) (x : X) → find p xs ≡ Some x → p x ≡ true
-first_passes p [] x e = cc e
-first_passes p (y ∷ ys) x e = first_in p y ys x (p y) refl (first_passes p ys x) e
-
 record IsSo (b : Bool) (fault : TraceFault) (read : Result Event TraceFault) (e : Event) : Type 0 where
   holds : b ≡ true
   rest : read ≡ Ok e
@@ -439,7 +427,7 @@ counted_tells cfg names n below fields (Some kind) e is h =
     let it : IsSo (may_have kind (length fields)) Fields (fields_of_kind cfg kind fields) e =
     so (may_have kind (length fields)) Fields (fields_of_kind cfg kind fields) e h in
     let word : same_name (word_of kind) (field_of 1 fields) ≡ true =
-    first_passes (λ k. same_name (word_of k) (field_of 1 fields)) all_kinds kind is in
+    (first_found (λ k. same_name (word_of k) (field_of 1 fields)) all_kinds kind is).passes in
     kind_tells cfg names n below kind fields e it.holds (sym (same_is (word_of kind) (field_of 1 fields) word)) it.rest
 
 line_tells : (cfg : NetCfg) → HasNames cfg → (n : ℕ) → n < node_count cfg → (line : List ℕ) (e : Event) → event_read cfg line ≡ Ok e

@@ -6,9 +6,8 @@ ghost use Rattle.wrp_law.specs.LinkLaw.{IsSound};
 ghost use Rattle.wrp_replay.specs.LinkLaw.{IsLawOver};
 
 use crate::replayed::Replayed;
-use wrp_config::link_above;
 use wrp_law::{DelayLaw, LinkLaw};
-use wrp_network::LinkCfg;
+use wrp_network::{LinkCfg, link_above};
 
 // The law of a link: the law of its fibre's table, if it has one.
 fn law_of<'a>(replayed: Replayed<'a>, link: &LinkCfg) -> LinkLaw<'a>

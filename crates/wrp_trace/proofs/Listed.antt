@@ -28,9 +28,9 @@ found_in p y ys x false is more e =
     let rest = more x e in
     record { passes = rest.passes; place = suc rest.place; stands = rest.stands }
 
-found : {X : Type 0} (p : X → Bool) (xs : List X) (x : X) → find p xs ≡ Some x → IsFound p xs x
-found p [] x e = cc e
-found p (y ∷ ys) x e = found_in p y ys x (p y) refl (found p ys) e
+pub first_found : {X : Type 0} (p : X → Bool) (xs : List X) (x : X) → find p xs ≡ Some x → IsFound p xs x
+first_found p [] x e = cc e
+first_found p (y ∷ ys) x e = found_in p y ys x (p y) refl (first_found p ys) e
 
 -- if one passes the test, one is found
 finds_in : {X : Type 0} (p : X → Bool) (y : X) (ys : List X) (b : Bool) → p y ≡ b
@@ -82,7 +82,7 @@ named_in : (db : Database) (name : List ℕ) (tx rx : ℕ) (values : Module) (o 
     → option_and_then (λ m. delays_at m.entries tx rx) o ≡ Some values → IsNamed db name
 named_in db name tx rx values None e is = cc is
 named_in db name tx rx values (Some m) e is =
-    let it = found (λ n. same_name n.name name) db.modules m e in
+    let it = first_found (λ n. same_name n.name name) db.modules m e in
     record { listed = m; place = it.place; stands = it.stands; same = (bytes_eq-Decides m.name name).0 it.passes }
 
 named_at_pair : (db : Database) (name : List ℕ) (values : Module) (pair : Option (ℕ × ℕ))
@@ -109,7 +109,7 @@ printed_name site port values sound (name, there) =
     let passes : test it.listed ≡ true =
     ap (λ n. has_values values (module_of site port n)) it.same ∙ ap (has_values values) there ∙ same_itself values in
     let first = finds test site.db.modules it.place it.listed it.stands passes in
-    let is = found test site.db.modules first.0 first.1 in (
+    let is = first_found test site.db.modules first.0 first.1 in (
       first.0.name,
       record {
         printed = ap (option_map (λ m. m.name)) first.1;

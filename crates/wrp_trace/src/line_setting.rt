@@ -9,7 +9,8 @@ ghost use Rattle.wrp_trace.specs.Printing.{module_text};
 
 use wrp_base::Module;
 use wrp_caldb::ListedModule;
-use wrp_config::{Network, link_above, pair_at};
+use wrp_config::{Network, pair_at};
+use wrp_network::link_above;
 
 // The name of a module that the database does not list.
 const UNLISTED: &str = "unlisted";

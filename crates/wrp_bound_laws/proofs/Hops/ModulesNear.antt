@@ -20,7 +20,7 @@ use Rattle.wrp_course.specs.declared.event.Swap.{Swap}
 use Rattle.wrp_course.specs.declared.place.Place.{Place}
 use Rattle.wrp_course.specs.Given.{given_by}
 use Rattle.wrp_course.specs.Moved.{behind_first, end_after, is_place, loses, moved, swap_at, with_swap}
-use Rattle.wrp_course.specs.Premises.{Accepts, entry_for, fibre_kept, module_checks, module_kept, swap_stands}
+use Rattle.wrp_course.specs.Premises.{Accepts, entry_for, fibre_kept, module_checks, module_kept, swap_is_placed}
 use Rattle.wrp_course.specs.Run.{Happened, world_after}
 use Rattle.wrp_course.specs.RunLaws.{SameModule}
 use Rattle.wrp_course.specs.Runs.{IsNetwork, IsRun}
@@ -66,14 +66,14 @@ waiting_near s k r e false waiting h = h
 record IsChecked (s : Setting) (n p : ℕ) (swap : Swap) : Type 0 where
   port : swap.port ≡ p
   near : AllHold (module_kept s n swap)
-  placed : Holds (swap_stands s n swap)
+  placed : Holds (swap_is_placed s n swap)
 
-checked_where : (s : Setting) (n p : ℕ) (x : Swap) (o : Option Swap) (swap : Swap) (b : Bool) → (x.port == p) ≡ b → AllHold (module_kept s n x) → Holds (swap_stands s n x) → (o ≡ Some swap → IsChecked s n p swap) →
+checked_where : (s : Setting) (n p : ℕ) (x : Swap) (o : Option Swap) (swap : Swap) (b : Bool) → (x.port == p) ≡ b → AllHold (module_kept s n x) → Holds (swap_is_placed s n x) → (o ≡ Some swap → IsChecked s n p swap) →
     cond b (Some x) o ≡ Some swap → IsChecked s n p swap
 checked_where s n p x o swap true e near placed later is = subst (IsChecked s n p) (same_Some x swap is) (record { port = eqb-true x.port p e; near = near; placed = placed })
 checked_where s n p x o swap false e near placed later is = later is
 
-swap_checked : (s : Setting) (n p : ℕ) (swaps : List Swap) (swap : Swap) → AllHold (flat_map (module_kept s n) swaps) → AllHold (map (swap_stands s n) swaps) → swap_at p swaps ≡ Some swap → IsChecked s n p swap
+swap_checked : (s : Setting) (n p : ℕ) (swaps : List Swap) (swap : Swap) → AllHold (flat_map (module_kept s n) swaps) → AllHold (map (swap_is_placed s n) swaps) → swap_at p swaps ≡ Some swap → IsChecked s n p swap
 swap_checked s n p [] swap near placed is = absurd (none-some swap is)
 swap_checked s n p (x ∷ swaps) swap near placed is =
     checked_where s n p x (swap_at p swaps) swap (x.port == p) refl (first_part (module_kept s n x) (flat_map (module_kept s n) swaps) near) placed.0
@@ -119,17 +119,17 @@ up_near s k p r swaps e false h near = h
 -- what was checked of all of them
 record AreChecked (s : Setting) (n : ℕ) (swaps : List Swap) : Type 0 where
   near : AllHold (flat_map (module_kept s n) swaps)
-  placed : AllHold (map (swap_stands s n) swaps)
+  placed : AllHold (map (swap_is_placed s n) swaps)
 
 up_checked : (s : Setting) (w : WorldAt) (says : Result PtpMsg FrameFault) (n : ℕ) (off : ℤ) (swaps : Items Swap) → Accepts s w says (Up n off swaps) → AreChecked s n swaps.items
 up_checked s w says n off swaps a =
     let v : WorldAt = moved s w (Up n off swaps) in
     let last : List Check = needs (not (w.clock n).up) ∷ [] in
-    let rest : AllHold (flat_map (module_kept s n) swaps.items ++ (map (swap_stands s n) swaps.items ++ last)) =
-    all_right Holds (flat_map (fibre_kept s v) (links_of s)) (flat_map (module_kept s n) swaps.items ++ (map (swap_stands s n) swaps.items ++ last)) a.1 in
+    let rest : AllHold (flat_map (module_kept s n) swaps.items ++ (map (swap_is_placed s n) swaps.items ++ last)) =
+    all_right Holds (flat_map (fibre_kept s v) (links_of s)) (flat_map (module_kept s n) swaps.items ++ (map (swap_is_placed s n) swaps.items ++ last)) a.1 in
     record {
-      near = first_part (flat_map (module_kept s n) swaps.items) (map (swap_stands s n) swaps.items ++ last) rest;
-      placed = first_part (map (swap_stands s n) swaps.items) last (all_right Holds (flat_map (module_kept s n) swaps.items) (map (swap_stands s n) swaps.items ++ last) rest);
+      near = first_part (flat_map (module_kept s n) swaps.items) (map (swap_is_placed s n) swaps.items ++ last) rest;
+      placed = first_part (map (swap_is_placed s n) swaps.items) last (all_right Holds (flat_map (module_kept s n) swaps.items) (map (swap_is_placed s n) swaps.items ++ last) rest);
     }
 
 -- Each event

@@ -24,8 +24,9 @@ fn set(out: &mut NodeOut, gift: Gift)
     out.input = gift.input;
 }
 
-/// Lists an input after the others. `AllocError` if there is not enough memory. An entry is large, so this
-/// function builds it in a stack frame of its own, and other events need no room for it.
+/// Lists an input after the others. `AllocError` if there is not enough memory; then the others are listed as
+/// before. An entry is large, so this function builds it in a stack frame of its own, and other events need no
+/// room for it.
 #[cold]
 #[inline(never)]
 pub fn add(outs: &mut Vec<NodeOut>, gift: Gift) -> Result<(), AllocError>

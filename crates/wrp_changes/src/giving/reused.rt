@@ -106,7 +106,7 @@ fn add_sample(
     )
 }
 
-/// A tick is listed alone.
+/// A tick is listed alone. `AllocError` if there is not enough memory for an entry; then nothing is listed.
 pub fn put_tick(outs: &mut Vec<NodeOut>, aside: &mut Vec<NodeOut>, n: u8) -> Result<(), AllocError>
     ensures { OnOk result (IsListedAlone (record { node = n; input = Tick }) outs.new.items) }
 {
@@ -120,7 +120,8 @@ pub fn put_tick(outs: &mut Vec<NodeOut>, aside: &mut Vec<NodeOut>, n: u8) -> Res
     }
 }
 
-/// A sample is listed alone.
+/// A sample is listed alone: its number, and the base and the bits of its beat. `AllocError` if there is not enough
+/// memory for an entry; then nothing is listed.
 pub fn put_sample(
     outs: &mut Vec<NodeOut>,
     aside: &mut Vec<NodeOut>,

@@ -8,7 +8,7 @@ ghost use Rattle.wrp_plant.specs.Sizes.{IsDelay};
 use wrp_base::Tau;
 use wrp_course::FibreState;
 use wrp_network::{LinkCfg, NetCfg};
-use wrp_plant::{EndState, Span, down_at, move_by, up_at};
+use wrp_plant::{EndState, Span, down_at, is_still, move_by, up_at};
 
 // Changes the delays of a link, down and up, by its entry in `moves`.
 fn move_span(span: &mut Span, moves: &[(i64, i64)], k: usize)
@@ -17,13 +17,6 @@ fn move_span(span: &mut Span, moves: &[(i64, i64)], k: usize)
     ensures { Moves moves.now k span.old span.new }
 {
     move_by(&mut span.fibre, down_at(moves, k), up_at(moves, k));
-}
-
-// Whether a move is 0 both ways.
-fn is_still(by: &(i64, i64)) -> bool
-    ensures { result ≡ true → by.now ≡ (pos 0, pos 0) }
-{
-    by.0 == 0 && by.1 == 0
 }
 
 // Whether neither delay of a fibre changes.

@@ -117,7 +117,7 @@ impl Port {
             (link_sends_of self.old.line.link (link.Tick locked)) }
         ensures room { length sends.new.items ≤ 2 }
     {
-        if !self.line.tick_on(&self.set, locked) {
+        if !self.line.tick_on(&self.set) {
             self.tick_handshake(locked, sends);
         }
     }

@@ -8,6 +8,7 @@ ghost use Rattle.wrp_plant.specs.Sizes.{IsOff};
 use crate::checks::{at_most, size};
 use wrp_base::Tau;
 use wrp_course::Breach;
+use wrp_plant::is_still;
 
 /// Rates are in parts of `10^-12`.
 const PARTS: u128 = 1_000_000_000_000;
@@ -74,18 +75,15 @@ fn moved_rate(dt: i64, by: &(i64, i64)) -> Option<Breach>
     }
 }
 
-// Whether neither delay of a fibre changes.
-fn stays(by: &(i64, i64)) -> bool
-    ensures { result ≡ true → by.now ≡ (pos 0, pos 0) }
-{
-    by.0 == 0 && by.1 == 0
-}
-
 // Checks that the delays of a fibre keep within their rate. Delays that do not change keep within every rate.
 fn fibre_rate(dt: i64, by: &(i64, i64)) -> Option<Breach>
     ensures { result ≡ told_of (premise.rate_of_fibre dt by.now) }
 {
-    if stays(by) { None } else { moved_rate(dt, by) }
+    if is_still(by) {
+        None
+    } else {
+        moved_rate(dt, by)
+    }
 }
 
 /// Premise 4: the delays of all fibres keep within their rate if they change by `moves` (down and

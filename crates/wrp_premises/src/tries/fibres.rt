@@ -14,7 +14,7 @@ ghost use Rattle.wrp_plant.specs.Sizes.{IsDelay};
 ghost use Rattle.wrp_premises.specs.Tried.{LinkHas, delays_after};
 ghost use Rattle.wrp_course.specs.WorldAt.{WorldAt};
 
-use crate::checks::stands;
+use crate::checks::needs;
 use crate::premises::fibres::fibre_kept;
 use arrayvec::ArrayVec;
 use wrp_base::Tau;
@@ -76,7 +76,7 @@ pub fn join_broken(plant: &Plant, k: u8, ms: Tau, sm: Tau) -> Option<Breach>
 {
     let delays = new_fibre_broken(plant, k, ms, sm);
     let joined = plant.joined(k);
-    delays.or(stands(!joined))
+    delays.or(needs(!joined))
 }
 
 // Checks the delays of a link after its fibre changed by its entry in the list.

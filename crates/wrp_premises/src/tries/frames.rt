@@ -13,7 +13,7 @@ ghost use Rattle.wrp_plant.specs.Sizes.{IsTime};
 ghost use Rattle.wrp_premises.specs.Tried.{departs_by, received_to};
 ghost use Rattle.wrp_course.specs.WorldAt.{FrameAt, WorldAt, is_on_fibre, reading};
 
-use crate::checks::stands;
+use crate::checks::needs;
 use crate::handing::{age_broken, carrier_broken, not_sent_broken};
 use crate::premises::stamps::{on_time, raw_kept, stamp_kept};
 use wrp_base::{Raw, Tau};
@@ -64,7 +64,7 @@ fn leaving_broken(plant: &Plant, n: u8, place: Place, stamp: Tau) -> Option<Brea
 {
     match plant.oldest_at(place) {
         Some(sent) => departing_broken(plant, n, place.link, stamp, sent),
-        None => not_sent_broken(plant, None, 0),
+        None => not_sent_broken(plant, 0),
     }
 }
 
@@ -81,7 +81,7 @@ pub fn depart_broken(plant: &Plant, n: u8, port: u16, stamp: Tau) -> Option<Brea
 {
     match place_of(&plant.net.cfg, n, port) {
         Some(place) => leaving_broken(plant, n, place, stamp),
-        None => stands(false),
+        None => needs(false),
     }
 }
 
@@ -147,7 +147,7 @@ fn flight_broken(plant: &Plant, number: u32, frame: &Departed, raw: &Raw) -> Opt
     if on {
         landing_broken(plant, frame, raw)
     } else {
-        not_sent_broken(plant, None, number)
+        not_sent_broken(plant, number)
     }
 }
 
@@ -162,6 +162,6 @@ pub fn arrive_broken(plant: &Plant, number: u32, raw: &Raw) -> Option<Breach>
 {
     match plant.frame(number) {
         Some(frame) => flight_broken(plant, number, frame, raw),
-        None => not_sent_broken(plant, None, number),
+        None => not_sent_broken(plant, number),
     }
 }

@@ -11,7 +11,7 @@ ghost use Rattle.wrp_course.specs.Setting.{Setting};
 ghost use Rattle.wrp_course.specs.WorldAt.{WorldAt};
 
 use super::fibres::swapped_fibres_broken;
-use crate::checks::stands;
+use crate::checks::needs;
 use crate::premises::modules::module_kept;
 use crate::premises::rates::true_at_top;
 use arrayvec::ArrayVec;
@@ -60,17 +60,17 @@ fn modules_broken(plant: &Plant, n: u8, swaps: &[Swap]) -> Option<Breach>
 fn port_broken(plant: &Plant, n: u8, swap: &Swap) -> Option<Breach>
     requires { FitsPlant plant.now }
     ensures { (s : Setting) (w : WorldAt) → PlantIs s w plant.now
-        → result ≡ told_of (premise.swap_stands s n swap.now ∷ []) }
+        → result ≡ told_of (premise.swap_is_placed s n swap.now ∷ []) }
 {
     let place = place_of(&plant.net.cfg, n, swap.port);
-    stands(place.is_some())
+    needs(place.is_some())
 }
 
 // Checks that all modules are installed at ports of links.
 fn ports_broken(plant: &Plant, n: u8, swaps: &[Swap]) -> Option<Breach>
     requires { FitsPlant plant.now }
     ensures { (s : Setting) (w : WorldAt) → PlantIs s w plant.now
-        → result ≡ told_of (map (premise.swap_stands s n) swaps.now) }
+        → result ≡ told_of (map (premise.swap_is_placed s n) swaps.now) }
 {
     for swap in swaps {
         if let Some(breach) = port_broken(plant, n, swap) {
@@ -88,7 +88,7 @@ fn up_again_broken(plant: &Plant, n: u8) -> Option<Breach>
         → result ≡ told_of (spec.needs (not (w.clock n).up) ∷ []) }
 {
     let up = plant.is_up(n);
-    stands(!up)
+    needs(!up)
 }
 
 /// The first premise that breaks if a node comes up with this offset and these modules, with both

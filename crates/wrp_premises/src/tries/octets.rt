@@ -1,6 +1,5 @@
 //! Which premise breaks if a port is handed octets that its peer did not send.
 ghost use Rattle.std.specs.Prelude.{◌≡◌, ◌<◌, ◌∷◌, [], length, Some};
-ghost use Rattle.wrp_base.specs.Message.{is_port};
 ghost use Rattle.wrp_node.specs.Set as set;
 ghost use Rattle.wrp_course.specs.Checks.{told_of};
 ghost use Rattle.wrp_plant.specs.Plant.{FitsPlant, PlantIs};
@@ -9,7 +8,7 @@ ghost use Rattle.wrp_course.specs.Setting.{Setting, place_of as place_in};
 ghost use Rattle.wrp_premises.specs.Tried.{TellsNoise, forged_by, identity_at, is_by};
 ghost use Rattle.wrp_course.specs.WorldAt.{WorldAt};
 
-use crate::checks::stands;
+use crate::checks::needs;
 use crate::handing::carrier_broken;
 use wrp_base::{Frame, PortIdentity, PtpMsg, Role};
 use wrp_course::{Breach, Place, place_of};
@@ -17,19 +16,12 @@ use wrp_frame::{FrameFault, decode};
 use wrp_network::LinkCfg;
 use wrp_plant::Plant;
 
-// Whether two ports are the same.
-fn is_same_port(a: PortIdentity, b: PortIdentity) -> bool
-    ensures { result ≡ is_port a b }
-{
-    a.clock == b.clock && a.port == b.port
-}
-
 // Whether octets spell a message of this port.
 fn is_by(peer: PortIdentity, says: &Result<PtpMsg, FrameFault>) -> bool
     ensures { result ≡ is_by peer says.now }
 {
     match says {
-        Ok(message) => is_same_port(message.head.source, peer),
+        Ok(message) => message.head.source == peer,
         Err(_) => false,
     }
 }
@@ -111,7 +103,7 @@ fn heard_broken(
 {
     match place_of(&plant.net.cfg, n, port) {
         Some(place) => said_broken(plant, n, port, place, says),
-        None => stands(false),
+        None => needs(false),
     }
 }
 

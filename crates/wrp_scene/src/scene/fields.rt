@@ -9,10 +9,9 @@ ghost use Rattle.wrp_scene.specs.ScenarioLines.{time_at, sum_at, permille_at, ns
 use super::fault::{Fault, FaultKind};
 use csv::ByteRecord;
 use wrp_base::{Tau, TraceFault, product};
-use wrp_config::link_above;
 use wrp_fields::{field, name_fault, number, number_at, number_fault};
 use wrp_names::{link_at, node_at};
-use wrp_network::NetCfg;
+use wrp_network::{NetCfg, link_above};
 
 // The greatest time, in ms.
 const MOST_TIME: u64 = 10_000_000;

@@ -7,7 +7,7 @@ ghost use Rattle.wrp_bounds.specs.Hop.{IsInRange};
 ghost use Rattle.std.specs.Prelude.{◌<◌, length};
 
 use std::alloc::AllocError;
-use wrp_bounds::{HopNumbers, held_motion, holdover, hop, link_above, numbers_over, path};
+use wrp_bounds::{HopNumbers, held_motion, holdover, hop, numbers_over, path, placed_above};
 use wrp_config::Network;
 use wrp_network::{NetCfg, NodeCfg};
 
@@ -45,7 +45,7 @@ fn hop_number_of(cfg: &NetCfg, n: u8, key: &str) -> Option<i128>
     requires tree { IsTree cfg.now }
     requires node { n < node_count cfg.now }
 {
-    let link = link_above(cfg, n)?;
+    let link = placed_above(cfg, n)?;
     if key == "hop" {
         return Some(hop(cfg, n));
     }

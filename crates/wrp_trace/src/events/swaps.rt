@@ -118,8 +118,8 @@ fn place_of(at: usize) -> u32
     at as u32 + 1
 }
 
-/// What the further fields of an `up` say. The fault is the one of the first field that says
-/// nothing.
+/// What the further fields of an `up` say: which module each port gets. If a field says nothing, the answer is
+/// the fault of the first such field.
 #[tactic(auto, using(crate::proofs::SwapLemmas::goes, crate::proofs::SwapLemmas::more_swaps))]
 pub fn swaps_at(row: &ByteRecord) -> Result<Swaps, TraceFault>
     requires { length (fields_of row.now) ≤ 21 }

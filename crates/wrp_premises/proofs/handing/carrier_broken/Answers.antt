@@ -5,4 +5,4 @@ use Rattle.wrp_premises.proofs.handing.carrier_broken.Goals as goal
 
 pub returns : goal.returns
 returns c s w h =
-    c.or.ensures ∙ ap (option_or c.args.so_far) (c.stands.ensures ∙ ap (λ b. told_of (needs b ∷ [])) (c.has_carrier-carrier.ensures s w h))
+    c.or.ensures ∙ ap (option_or c.args.so_far) (c.needs.ensures ∙ ap (λ b. told_of (needs b ∷ [])) (c.has_carrier-carrier.ensures s w h))

@@ -18,4 +18,4 @@ returns-then-carrier c s w h =
 
 pub returns-else-carrier : goal.returns-else-carrier
 returns-else-carrier c s w h =
-    beat_dark s w c.args.n c.args.base c.args.bits c.args.k c.stands.result c.stands.ensures (sym (c.has_carrier-carrier.ensures s w h) ∙ c.if-carrier.false)
+    beat_dark s w c.args.n c.args.base c.args.bits c.args.k c.needs.result c.needs.ensures (sym (c.has_carrier-carrier.ensures s w h) ∙ c.if-carrier.false)

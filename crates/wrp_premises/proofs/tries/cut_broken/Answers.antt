@@ -3,4 +3,4 @@ use Rattle.wrp_course.specs.Checks.{told_of, needs}
 use Rattle.wrp_premises.proofs.tries.cut_broken.Goals as goal
 
 pub returns : goal.returns
-returns c s w h = c.stands.ensures ∙ ap (λ b. told_of (needs b ∷ [])) (c.joined.ensures s w h)
+returns c s w h = c.needs.ensures ∙ ap (λ b. told_of (needs b ∷ [])) (c.joined.ensures s w h)

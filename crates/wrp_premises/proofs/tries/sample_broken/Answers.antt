@@ -10,5 +10,5 @@ returns-in-Some c s w h =
 
 pub returns-in-None : goal.returns-in-None
 returns-in-None c s w h =
-    c.stands.ensures
+    c.needs.ensures
     ∙ ap (λ o. told_of (sample_checks s w c.args.n c.args.base c.args.bits o)) (sym c.in-None.is ∙ c.above.ensures.value s w h)

@@ -17,5 +17,5 @@ returns c s w h =
     ∙ ap (λ (cfg : NetCfg). pos (shortest_tick cfg)) (c.cfg.ensures.value ∙ h.cfg))
     (read c.now-now.result (omega (arith, c.now-now.ensures.size)) ∙ c.now-now.ensures.value ∙ h.time)
     (c.clock-clock.ensures.value s w h))
-    (c.stands.ensures ∙ ap (λ b. told_of (needs b ∷ [])) (c.is_up-up.ensures s w h))
+    (c.needs.ensures ∙ ap (λ b. told_of (needs b ∷ [])) (c.is_up-up.ensures s w h))
     ∙ sym (told_cons (tick_early s w c.args.n) (needs (w.clock c.args.n).up ∷ []))

@@ -11,4 +11,4 @@ loop-by-preserved c e =
     still_next c.args.moves.now c.loop-by.by-index (c.loop-by.invariant both.0) (still_here c.args.moves.now c.loop-by.by-index _ (omega arith) both.1)
 
 pub returns : goal.returns
-returns c e = still_all c.args.moves.now c.loop-by.by-index (omega arith) (c.loop-by.invariant (c.is_still.ensures e))
+returns c e = still_all c.args.moves.now c.loop-by.by-index (omega arith) (c.loop-by.invariant (c.is_still.ensures.still e))

@@ -13,5 +13,5 @@ returns c s w says h =
     c.or.ensures ∙ ap₂ option_or
     (c.new_fibre_broken-delays.ensures s w h
     ∙ ap₂ (λ a b. told_of (fibre_kept s (moved s w (Join c.args.k a b)) c.args.k)) (read c.args.ms (omega (arith, c.requires.ms))) (read c.args.sm (omega (arith, c.requires.sm))))
-    (c.stands.ensures ∙ ap (λ b. told_of (needs (not b) ∷ [])) (c.joined-joined.ensures s w h))
+    (c.needs.ensures ∙ ap (λ b. told_of (needs (not b) ∷ [])) (c.joined-joined.ensures s w h))
     ∙ sym (told_append (fibre_kept s (moved s w (Join c.args.k c.args.ms c.args.sm)) c.args.k) (needs (not (w.fibre c.args.k).joined) ∷ []))

@@ -13,5 +13,5 @@ returns-in-Some c s w says h =
 
 pub returns-in-None : goal.returns-in-None
 returns-in-None c s w says h =
-    depart_told s w c.args.n c.args.port c.args.stamp _ c.stands.result c.stands.ensures
+    depart_told s w c.args.n c.args.port c.args.stamp _ c.needs.result c.needs.ensures
     (ap (λ (cfg : NetCfg). place_among c.args.n c.args.port 0 cfg.links.items) (sym h.cfg) ∙ sym c.place_of.ensures.value ∙ c.in-None.is)

@@ -7,5 +7,5 @@ use Rattle.wrp_premises.proofs.tries.modules.port_broken.Goals as goal
 
 pub returns : goal.returns
 returns c s w h =
-    c.stands.ensures ∙ ap (λ b. told_of (needs b ∷ [])) (c.is_some.ensures ∙ ap is_some (c.place_of-place.ensures.value
+    c.needs.ensures ∙ ap (λ b. told_of (needs b ∷ [])) (c.is_some.ensures ∙ ap is_some (c.place_of-place.ensures.value
     ∙ ap (λ (cfg : NetCfg). place_among c.args.n c.args.swap.now.port 0 cfg.links.items) h.cfg))

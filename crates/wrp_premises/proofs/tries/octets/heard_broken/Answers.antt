@@ -15,4 +15,4 @@ pub returns-in-None : goal.returns-in-None
 returns-in-None c s w h set =
     let place : place_of s c.args.n c.args.port ≡ None =
     ap (λ (cfg : NetCfg). place_among c.args.n c.args.port 0 cfg.links.items) (sym h.cfg) ∙ sym c.place_of.ensures.value ∙ c.in-None.is in
-    c.stands.ensures ∙ sym (ap (λ o. told_of (noise_checks s w c.args.n c.args.port c.args.says.now o)) place)
+    c.needs.ensures ∙ sym (ap (λ o. told_of (noise_checks s w c.args.n c.args.port c.args.says.now o)) place)
