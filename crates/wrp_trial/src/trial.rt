@@ -12,9 +12,9 @@ use crate::fitting::can_come;
 use crate::network::THREE_NODES;
 use std::alloc::{AllocError, AllocFailed, Global};
 use wrp_base::{ConfFault, Tau};
-use wrp_config::{Network, link_above};
+use wrp_config::Network;
 use wrp_law::{DelayLaw, LawKind};
-use wrp_network::{LinkCfg, NetCfg};
+use wrp_network::{LinkCfg, NetCfg, link_above};
 use wrp_network_text::ReadNetwork;
 use wrp_world::{Event, NodeOut, Refused, World};
 

@@ -7,8 +7,7 @@ ghost use Rattle.wrp_course.specs.Setting.{Setting};
 ghost use Rattle.wrp_course.specs.WorldAt.{WorldAt};
 
 use super::Plant;
-use wrp_config::link_above;
-use wrp_network::NetCfg;
+use wrp_network::{NetCfg, link_above};
 
 // Whether the link with this number is above a node.
 fn is_above(cfg: &NetCfg, k: usize, n: u8) -> bool
