@@ -1,11 +1,20 @@
 """Reads the case files of the program of cases, whose format docs/CASES.md describes: their texts, and the words and the input of each case."""
 import os
 import re
+import sys
 
 TOP = os.path.dirname(os.path.dirname(os.path.dirname(os.path.realpath(__file__))))
 DATA = f"{TOP}/crates/wrp_run_cases/data"
 PROGRAM = os.environ.get("WRNET", f"{TOP}/crates/wrnet/out/wrnet")
 PARTS = ("words", "word", "room", "source", "sink", "gives", "takes", "left", "calls", "link_call", "status")
+
+
+def is_missing(tool, program=PROGRAM, how="./wrnet builds it"):
+    """Whether the program is not there; then standard error says so."""
+    if os.path.isfile(program) and os.access(program, os.X_OK):
+        return False
+    print(f"{tool}: there is no program {program}; {how}", file=sys.stderr)
+    return True
 
 
 class Case:
